@@ -1,0 +1,46 @@
+-- The first row that answers: what one turn of the search shows, and that the definition meets the relation.
+use mathlib.Core.Path.{_≡_, refl, sym, ap, _∙_}
+use mathlib.Core.Bool.{Bool, true, false}
+use mathlib.Core.List.{List, [], _∷_}
+use mathlib.Core.Logic.{⊎-elim}
+use Prim.Native.Nat.{ℕ, zero, suc, _+_, _<_, _≤_}
+use native.Mathlib.Omega.{arith}
+use lib.ListN.{length, getD, drop}
+use Rattle.std.specs.declared.option.Option.{Option}
+use Rattle.std.specs.declared.option.Option.the-variants.{Some, None}
+use Rattle.std.proofs.shelf.Lists.{at-drop-more, at-drop-all}
+use Rattle.std.proofs.shelf.Tests.{cases-bool, cond-true, cond-false}
+use Rattle.memory.specs.Rows.{Finds, first-from, first-index}
+
+pub hit : {X : Type 0} (p : X → Bool) (xs : List X) (i : ℕ) (x : X) → i < length xs → x ≡ getD xs i x → p x ≡ true → first-from p i (drop i xs) ≡ Some i
+hit p xs i x h e t = at-drop-more (first-from p i) xs i x h ∙ cond-true (p (getD xs i x)) _ _ (ap p (sym e) ∙ t)
+
+pub miss : {X : Type 0} (p : X → Bool) (xs : List X) (i : ℕ) (x : X) → i < length xs → x ≡ getD xs i x → p x ≡ false → first-from p i (drop i xs) ≡ first-from p (i + 1) (drop (i + 1) xs)
+miss p xs i x h e t = at-drop-more (first-from p i) xs i x h ∙ cond-false (p (getD xs i x)) _ _ (ap p (sym e) ∙ t)
+
+pub none : {X : Type 0} (p : X → Bool) (xs : List X) (i : ℕ) → length xs ≤ i → first-from p i (drop i xs) ≡ None
+none p xs i h = at-drop-all (first-from p i) xs i h
+
+-- the index in a list that begins at i
+abbrev shifted : ℕ → Option ℕ → Option ℕ
+shifted i None = None
+shifted i (Some k) = Some (i + k)
+
+-- what the relation finds is what the definition says
+finds-from : {X : Type 0} (p : X → Bool) (xs : List X) (i : ℕ) (o : Option ℕ) → Finds p xs o → first-from p i xs ≡ shifted i o
+finds-from p [] i None f = refl
+finds-from p [] i (Some k) f = absurd (omega (arith, f .0))
+finds-from p (x ∷ xs) i None f =
+    cond-false _ _ _ (f 0 x (omega arith) (omega arith)) ∙ finds-from p xs (i + 1) None (λ k d l h. f (suc k) d (omega arith) (omega arith))
+finds-from p (x ∷ xs) i (Some zero) f = cond-true _ _ _ (f .1 x) ∙ ap Some (omega arith)
+finds-from p (x ∷ xs) i (Some (suc k)) f =
+    cond-false _ _ _ (f .2 0 x (omega arith) (omega arith))
+    ∙ finds-from p xs (i + 1) (Some k) (omega (arith, f .0), f .1, λ j d l h. f .2 (suc j) d (omega arith) (omega arith))
+    ∙ ap Some (omega arith)
+
+shifted-zero : (o : Option ℕ) → shifted 0 o ≡ o
+shifted-zero None = refl
+shifted-zero (Some k) = ap Some (omega arith)
+
+pub finds-first : {X : Type 0} (p : X → Bool) (xs : List X) (o : Option ℕ) → Finds p xs o → o ≡ first-index p xs
+finds-first p xs o f = sym (finds-from p xs 0 o f ∙ shifted-zero o)

@@ -1,0 +1,6 @@
+pub mod Answers
+pub mod Content
+pub mod Rows
+pub mod Layouts
+pub mod Banks
+pub mod Marked
