@@ -1,5 +1,5 @@
 -- The first row that answers: what one turn of the search shows, and that the definition meets the relation.
-use mathlib.Core.Path.{_≡_, refl, sym, ap, _∙_}
+use mathlib.Core.Path.{_≡_, refl, sym, ap, subst, _∙_}
 use mathlib.Core.Bool.{Bool, true, false}
 use mathlib.Core.List.{List, [], _∷_}
 use mathlib.Core.Logic.{⊎-elim}
@@ -44,3 +44,30 @@ shifted-zero (Some k) = ap Some (omega arith)
 
 pub finds-first : {X : Type 0} (p : X → Bool) (xs : List X) (o : Option ℕ) → Finds p xs o → o ≡ first-index p xs
 finds-first p xs o f = sym (finds-from p xs 0 o f ∙ shifted-zero o)
+
+abbrev Found : {X : Type 0} → (X → Bool) → List X → ℕ → Type 0
+Found p xs i = (o : Option ℕ) × (first-from p i xs ≡ shifted i o) × Finds p xs o
+
+found-more : {X : Type 0} (p : X → Bool) (x : X) (xs : List X) (i : ℕ) → p x ≡ false → Found p xs (i + 1) → Found p (x ∷ xs) i
+found-more {X} p x xs i t (None, e, f) = (None, cond-false _ _ _ t ∙ e, every)
+  where
+    every : (k : ℕ) (d : X) → 0 ≤ k → k < length (x ∷ xs) → p (getD (x ∷ xs) k d) ≡ false
+    every zero d l h = t
+    every (suc k) d l h = f k d (omega arith) (omega arith)
+found-more {X} p x xs i t (Some j, e, f) = (Some (suc j), cond-false _ _ _ t ∙ e ∙ ap Some (omega arith), (omega (arith, f .0), f .1, every))
+  where
+    every : (k : ℕ) (d : X) → 0 ≤ k → k < suc j → p (getD (x ∷ xs) k d) ≡ false
+    every zero d l h = t
+    every (suc k) d l h = f .2 k d (omega arith) (omega arith)
+
+found : {X : Type 0} (p : X → Bool) (xs : List X) (i : ℕ) → Found p xs i
+found p [] i = (None, refl, λ k d l h. absurd (omega arith))
+found p (x ∷ xs) i =
+    ⊎-elim
+    (λ t. (Some 0, cond-true _ _ _ t ∙ ap Some (omega arith), (omega arith, (λ d. t), λ k d l h. absurd (omega arith))))
+    (λ t. found-more p x xs i t (found p xs (i + 1)))
+    (cases-bool (p x))
+
+-- the definition meets the relation
+pub first-finds : {X : Type 0} (p : X → Bool) (xs : List X) → Finds p xs (first-index p xs)
+first-finds p xs = let h = found p xs 0 in subst (Finds p xs) (sym (h .1 ∙ shifted-zero (h .0))) (h .2)

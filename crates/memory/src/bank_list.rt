@@ -1,10 +1,11 @@
 // A list of banks that the checks have passed: it exists only by its constructor.
 ghost use lib.ListN.{take, length};
+ghost use mathlib.Core.Bool.{false};
 ghost use mathlib.Core.Path.{_≡_};
 ghost use Prim.Native.Nat.{ℕ, _^_, _<_, _≤_};
 ghost use Rattle.memory.specs.Banks.{Admitted, Judged, list-answer, list-answered, list-cause, list-fault};
 ghost use Rattle.std.specs.Vec.{made};
-ghost use Rattle.std.specs.declared.option.Option.the-variants.{None};
+ghost use Rattle.std.specs.Options.{isSome};
 use crate::banks::Bank;
 use crate::banks::BankListRefusal;
 use crate::banks::fault_of;
@@ -16,7 +17,7 @@ pub struct BankList {
     count: usize,
     room: usize,
     ghost few: { count ≤ 8 },
-    ghost faultless: { list-fault (take count banks) room ≡ None },
+    ghost faultless: { isSome (list-fault (take count banks) room) ≡ false },
     ghost narrow: { room < 2 ^ 64 },
 }
 

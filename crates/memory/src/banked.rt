@@ -45,7 +45,7 @@ impl Laid<BankList> {
     // The banks of a list, over as many zero bytes as it was made for.
     pub fn zeros(heap: Global, list: BankList) -> Result<Banked, AllocError>
         ensures content { λ r. ⌜ made r (λ m. laid-out (bank-places (take (m .layout .count) (m .layout .banks))) (vec-len (m .bytes)) (vec-items (m .bytes)) ≡ banked (take (list .count) (list .banks)) (replicate (list .room) 0)) ⌝ }
-        ensures exact { λ r. ⌜ Exact-banks (take (list .count) (list .banks)) (banked (take (list .count) (list .banks)) (replicate (list .room) 0)) ⌝ }
+        ensures exact { λ r. ⌜ made r (λ m. Exact-banks (take (list .count) (list .banks)) (laid-out (bank-places (take (m .layout .count) (m .layout .banks))) (vec-len (m .bytes)) (vec-items (m .bytes)))) ⌝ }
     {
         let bytes = vec![in heap; 0; list.room()]?;
         Ok(Laid::new(list, bytes))

@@ -1,0 +1,18 @@
+use native.Mathlib.Nat.{sub-zero}
+use native.Mathlib.Omega.{arith}
+use Prim.Native.Nat.{_+_, _*_}
+use Rattle.memory.specs.Banks.{nth}
+use Rattle.memory.proofs.BankPlaces.{holds-range, total-next, total-within}
+use Rattle.memory.proofs.banked.place_in.Needs as need
+
+pub bytes-of-requires : need.bytes-of-requires
+bytes-of-requires c κs = simp sub-zero (omega (arith, total-within (c .args .banks .now) (c .in-Some .i)))
+
+-- the bytes up to the address are fewer than those of all the banks
+pub add-result : need.add-result
+add-result c =
+    let banks = c .args .banks .now in
+    let i = c .in-Some .i in
+    let found = c .in-Some .ensures tt .finds in
+    let range = holds-range (nth banks i) (c .args .line * 32) (found .1 _) in
+    omega (arith, simp sub-zero at (c .bytes-of .ensures), total-next banks i (found .0), total-within banks (i + 1))
