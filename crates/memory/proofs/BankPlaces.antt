@@ -75,12 +75,12 @@ holds-line {b = b} s address =
     let size = l .1 .1 in
     ⊎-elim
     (λ t. let from : b .base ≤ address = grind (arith, tells) in
-        let to : address < b .base + b .size = grind (arith, tells) in
-        and-from _ _ (le-leb (b .base) (32 * (address / 32)) (omega arith)) (lt-ltb (32 * (address / 32)) (b .base + b .size) (omega arith)) ∙ sym t)
+    let to : address < b .base + b .size = grind (arith, tells) in
+    and-from _ _ (le-leb (b .base) (32 * (address / 32)) (omega arith)) (lt-ltb (32 * (address / 32)) (b .base + b .size) (omega arith)) ∙ sym t)
     (λ t. ⊎-elim
-        (λ f. and-left _ _ (lt-leb (b .base) (32 * (address / 32)) (omega (arith, leb-false (b .base) address f))))
-        (λ f. and-right _ _ (le-ltb (32 * (address / 32)) (b .base + b .size) (omega (arith, ltb-false address (b .base + b .size) f))))
-        (and-cases (leb (b .base) address) (ltb address (b .base + b .size)) t) ∙ sym t)
+    (λ f. and-left _ _ (lt-leb (b .base) (32 * (address / 32)) (omega (arith, leb-false (b .base) address f))))
+    (λ f. and-right _ _ (le-ltb (32 * (address / 32)) (b .base + b .size) (omega (arith, ltb-false address (b .base + b .size) f))))
+    (and-cases (leb (b .base) address) (ltb address (b .base + b .size)) t) ∙ sym t)
     (cases-bool (holds b address))
 
 -- a line lies in a bank that holds its address, behind the banks before that one
@@ -175,7 +175,7 @@ module _ (banks : List Bank) (sound : Sound-until banks (length banks)) where
   pub exact : (bytes : List ℕ) → Exact-banks banks (banked banks bytes)
   exact bytes = record {
     present = λ address. (present-from bytes address _ refl, in-a-bank bytes address);
-    single = single
+    single = single;
   }
 
 -- a memory of banks that was made over zero bytes

@@ -36,9 +36,9 @@ alone-apart a b p q alone =
     ⊎-elim
     (λ t. t)
     (λ f. absurd (⊎-elim
-      (λ (l : a .base < b .base). alone (b .base) (grind (arith, tells)) (grind (arith, tells)))
-      (λ (l : b .base ≤ a .base). alone (a .base) (grind (arith, tells)) (grind (arith, tells)))
-      (cases-lt (a .base) (b .base))))
+    (λ (l : a .base < b .base). alone (b .base) (grind (arith, tells)) (grind (arith, tells)))
+    (λ (l : b .base ≤ a .base). alone (a .base) (grind (arith, tells)) (grind (arith, tells)))
+    (cases-lt (a .base) (b .base))))
     (cases-bool (apart a b))
 
 clear-at : (before : List Bank) (b : Bank) → clear before b ≡ true → (k : ℕ) → k < length before → apart (nth before k) b ≡ true
@@ -61,7 +61,7 @@ none-sound before b e =
       size = size-power (b .size) fits;
       base = grind (arith, tells);
       below = grind (arith, tells);
-      alone = λ k address h. apart-alone (nth before k) b (clear-at before b free k h) address
+      alone = λ k address h. apart-alone (nth before k) b (clear-at before b free k h) address;
     }
 
 sound-none : (before : List Bank) (b : Bank) → ((k : ℕ) → k < length before → 0 < nth before k .size) → Sound before b → bank-fault before b ≡ None

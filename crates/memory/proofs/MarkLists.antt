@@ -83,8 +83,8 @@ unmarked (x ∷ marks) line d k =
     let p : marked marks (x .line) ≡ false = not-true _ (and-parts _ (distinct marks) d .0) in
     ⊎-elim
     (λ t. ap (λ xs. marked xs k) (cond-true (eqb (x .line) line) marks (x ∷ without marks line) t)
-        ∙ head-goes (x .line) k line (marked marks k) t (λ e. ap (marked marks) (e ∙ sym (eqb-true _ _ t)) ∙ p))
+    ∙ head-goes (x .line) k line (marked marks k) t (λ e. ap (marked marks) (e ∙ sym (eqb-true _ _ t)) ∙ p))
     (λ t. ap (λ xs. marked xs k) (cond-false (eqb (x .line) line) marks (x ∷ without marks line) t)
-        ∙ ap (λ b. eqb (x .line) k || b) (unmarked marks line (and-parts _ _ d .1) k)
-        ∙ head-stays (x .line) k line (marked marks k) t)
+    ∙ ap (λ b. eqb (x .line) k || b) (unmarked marks line (and-parts _ _ d .1) k)
+    ∙ head-stays (x .line) k line (marked marks k) t)
     (cases-bool (eqb (x .line) line))

@@ -35,9 +35,9 @@ full-write marks after below wrote line mask bytes l full w goes = fun-ext (λ k
     let here = ap (λ lines. lines k) w in
     ⊎-elim
     (λ e. let t = eq-eqb k line e in
-        cond-false _ _ _ (goes k ∙ and-right _ _ (ap not t)) ∙ here ∙ cond-true _ _ _ t ∙ full-over bytes mask l full (marked marks k) (below k) ∙ sym (cond-true _ _ _ t))
+    cond-false _ _ _ (goes k ∙ and-right _ _ (ap not t)) ∙ here ∙ cond-true _ _ _ t ∙ full-over bytes mask l full (marked marks k) (below k) ∙ sym (cond-true _ _ _ t))
     (λ ne. let t = ne-eqb k line ne in
-        rw (goes k ∙ and-not-false _ _ t, here ∙ cond-false _ _ _ t) (sym (cond-false _ _ _ t)))
+    rw (goes k ∙ and-not-false _ _ t, here ∙ cond-false _ _ _ t) (sym (cond-false _ _ _ t)))
     (cases-eq k line))
 
 -- a partial write leaves a spoiled line spoiled, marked or not

@@ -38,7 +38,7 @@ one-bit (suc d) n h e =
     let s = ones-step n in
     ⊎-elim
     (λ even. let rest = one-bit d (n / 2) (half-below d n h) (omega arith) in
-        (suc (rest .0), (let p = pow-suc 2 (rest .0) in let q = rest .1 in omega arith)))
+    (suc (rest .0), (let p = pow-suc 2 (rest .0) in let q = rest .1 in omega arith)))
     (λ odd. (0, (let rest = no-bit d (n / 2) (half-below d n h) (omega arith) in omega arith)))
     (cases-eq (n % 2) 0)
 
@@ -57,7 +57,7 @@ size-power size h =
       exponent = k;
       least = ⊎-elim (λ small. absurd (let q = pow-below k 13 small in omega arith)) (λ l. l) (cases-lt k 13);
       most = ⊎-elim (λ big. absurd (let q = pow-below 30 k big in omega arith)) (λ l. l) (cases-lt 30 k);
-      is = e
+      is = e;
     }
 
 pow-le : (i j : ℕ) → i ≤ j → 2 ^ i ≤ 2 ^ j

@@ -4,3 +4,4 @@ pub mod Rows
 pub mod Layouts
 pub mod Banks
 pub mod Marked
+pub mod Layers

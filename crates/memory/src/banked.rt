@@ -1,10 +1,9 @@
 // Banks laid one behind the other in one run of bytes.
-ghost use lib.ListN.{replicate, take};
+ghost use lib.ListN.{replicate};
 ghost use mathlib.Core.Path.{_≡_};
 ghost use Prim.Native.Nat.{_^_, _<_};
 ghost use Rattle.memory.specs.Banks.{Exact-banks, bank-places, banked, total};
-ghost use Rattle.memory.specs.Layouts.{laid-out};
-ghost use Rattle.std.specs.Of.Vec.{vec-items, vec-len};
+ghost use Rattle.memory.specs.Layers.{banks-of, lines-laid};
 ghost use Rattle.std.specs.Vec.{made};
 use crate::bank_list::BankList;
 use crate::banks::Bank;
@@ -32,7 +31,7 @@ fn place_in(banks: &[Bank], line: u64) -> Option<usize>
 }
 
 pub impl Layout for BankList as BankListLayout {
-    ghost place = { λ l. bank-places (take (l .count) (l .banks)) };
+    ghost place = { λ l. bank-places (banks-of l) };
 
     fn place_of(&self, line: u64) -> Option<usize> {
         place_in(self.as_slice(), line)
@@ -44,8 +43,8 @@ pub type Banked = Laid<BankList>;
 impl Laid<BankList> {
     // The banks of a list, over as many zero bytes as it was made for.
     pub fn zeros(heap: Global, list: BankList) -> Result<Banked, AllocError>
-        ensures content { λ r. ⌜ made r (λ m. laid-out (bank-places (take (m .layout .count) (m .layout .banks))) (vec-len (m .bytes)) (vec-items (m .bytes)) ≡ banked (take (list .count) (list .banks)) (replicate (list .room) 0)) ⌝ }
-        ensures exact { λ r. ⌜ made r (λ m. Exact-banks (take (list .count) (list .banks)) (laid-out (bank-places (take (m .layout .count) (m .layout .banks))) (vec-len (m .bytes)) (vec-items (m .bytes)))) ⌝ }
+        ensures content { λ r. ⌜ made r (λ m. lines-laid (λ l. bank-places (banks-of l)) m ≡ banked (banks-of list) (replicate (list .room) 0)) ⌝ }
+        ensures exact { λ r. ⌜ made r (λ m. Exact-banks (banks-of list) (lines-laid (λ l. bank-places (banks-of l)) m)) ⌝ }
     {
         let bytes = vec![in heap; 0; list.room()]?;
         Ok(Laid::new(list, bytes))

@@ -105,7 +105,11 @@ pub(crate) fn fault_of(banks: &[Bank], n: usize) -> Option<BankListRefusal>
         }
         sum += bank.size as usize;
     }
-    if sum > n { Some(BankListRefusal::Total) } else { None }
+    if sum > n {
+        Some(BankListRefusal::Total)
+    } else {
+        None
+    }
 }
 
 // The bytes of all the banks.

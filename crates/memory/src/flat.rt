@@ -1,8 +1,8 @@
 // A flat memory: n bytes from address 0, whole lines only, never spoiled.
 ghost use lib.ListN.{replicate};
 ghost use mathlib.Core.Path.{_≡_};
-ghost use Prim.Native.Nat.{ℕ};
-ghost use Rattle.memory.specs.Layouts.{flat, from-zero, laid-out};
+ghost use Rattle.memory.specs.Layers.{lines-laid};
+ghost use Rattle.memory.specs.Layouts.{flat, from-zero};
 ghost use Rattle.std.specs.Of.Vec.{vec-items, vec-len};
 ghost use Rattle.std.specs.Vec.{made};
 use crate::layout::Laid;
@@ -18,7 +18,11 @@ pub impl Layout for FromZero as FromZeroLayout {
     ghost place = { λ _. from-zero };
 
     fn place_of(&self, line: u64) -> Option<usize> {
-        if line < 0xC000000 { Some(line as usize * 32) } else { None }
+        if line < 0xC000000 {
+            Some(line as usize * 32)
+        } else {
+            None
+        }
     }
 }
 
@@ -27,14 +31,14 @@ pub type Flat = Laid<FromZero>;
 impl Laid<FromZero> {
     // A flat memory of the given bytes.
     pub fn of_bytes(bytes: Vec<u8>) -> Flat
-        ensures { λ r. ⌜ laid-out from-zero (vec-len (r .bytes)) (vec-items (r .bytes)) ≡ flat (vec-len bytes) (vec-items bytes) ⌝ }
+        ensures { λ r. ⌜ lines-laid (λ _. from-zero) r ≡ flat (vec-len bytes) (vec-items bytes) ⌝ }
     {
         Laid::new(FromZero, bytes)
     }
 
     // A flat memory of n zero bytes.
     pub fn zeros(heap: Global, n: usize) -> Result<Flat, AllocError>
-        ensures { λ r. ⌜ made r (λ m. laid-out from-zero (vec-len (m .bytes)) (vec-items (m .bytes)) ≡ flat n (replicate n 0)) ⌝ }
+        ensures { λ r. ⌜ made r (λ m. lines-laid (λ _. from-zero) m ≡ flat n (replicate n 0)) ⌝ }
     {
         Ok(Laid::new(FromZero, vec![in heap; 0; n]?))
     }

@@ -1,8 +1,8 @@
 // A memory whose lines lie in one run of bytes, where a layout places them.
 ghost use mathlib.Core.Path.{_≡_};
-ghost use Prim.Native.Nat.{ℕ};
-ghost use Rattle.memory.specs.Layouts.{Apart, Placed-below, Places, inside, laid-out};
-ghost use Rattle.std.specs.Of.Vec.{vec-items, vec-len};
+ghost use Rattle.memory.specs.Layers.{lines-laid};
+ghost use Rattle.memory.specs.Layouts.{Apart, Placed-below, Places, inside};
+ghost use Rattle.std.specs.Of.Vec.{vec-len};
 use crate::Memory;
 use crate::MemoryFault;
 use crate::line::fetch;
@@ -41,12 +41,16 @@ impl<L: Layout> Laid<L> {
             return None;
         };
         let n = self.bytes.len();
-        if at <= n && 32 <= n - at { Some(at) } else { None }
+        if at <= n && 32 <= n - at {
+            Some(at)
+        } else {
+            None
+        }
     }
 }
 
 pub impl<L: Layout> Memory for Laid<L> as LaidMemory {
-    ghost content = { λ m. laid-out (L·Layout .place (m .layout)) (vec-len (m .bytes)) (vec-items (m .bytes)) };
+    ghost content = { lines-laid (L·Layout .place) };
 
     fn present(&self, line: u64) -> bool {
         self.offset_of(line).is_some()

@@ -7,6 +7,7 @@ pub mod layout;
 mod line;
 pub mod marks;
 pub mod rows;
+
 ghost use mathlib.Core.Path.{_≡_};
 ghost use Prim.Native.Nat.{ℕ};
 ghost use Rattle.memory.specs.Content.{Bounded, Lines, Whole, is-present, read-answer, read-place, write-answer, written};

@@ -1,19 +1,15 @@
 // A layer of marked lines over any memory.
+pub mod layer;
+
 ghost use lib.Dec.{eqb};
 ghost use mathlib.Core.Bool.{true};
-ghost use mathlib.Core.List.{[]};
 ghost use mathlib.Core.Path.{_≡_};
-ghost use Prim.Native.Nat.{ℕ, _≤_};
-ghost use Rattle.memory.specs.Content.{write-answer, written};
-ghost use Rattle.memory.specs.Marked.{distinct, lines-marked, mark-answer, mark-answered, marked, marks-written, under-marks, with-mark, without};
+ghost use Prim.Native.Nat.{_≤_};
+ghost use Rattle.memory.specs.Marked.{distinct, marked, without};
 ghost use Rattle.std.specs.Of.Vec.{vec-cap, vec-items, vec-len};
-ghost use Rattle.std.specs.Vec.{made};
 use crate::Memory;
-use crate::MemoryFault;
 use crate::rows::Row;
 use crate::rows::find;
-use std::alloc::AllocError;
-use std::alloc::Global;
 
 // The number of a marked line.
 #[derive(Clone, Copy)]
@@ -62,67 +58,5 @@ fn unmark(marks: &mut Vec<Mark>, line: u64)
 {
     if let Some(i) = find(marks.as_slice(), line) {
         let _ = marks.remove(i);
-    }
-}
-
-impl<M: Memory> Marks<M> {
-    // No line is marked yet, so each holds what it holds below.
-    pub fn new(heap: Global, below: M) -> Result<Marks<M>, AllocError>
-    where
-        M: Drop,
-        ensures unmarked { λ r. ⌜ made r (λ m. (vec-items (m .marks) ≡ []) × (m .below ≡ below)) ⌝ }
-        ensures content { λ r. ⌜ made r (λ m. under-marks (vec-items (m .marks)) (M·Memory .content (m .below)) ≡ M·Memory .content below) ⌝ }
-    {
-        let marks = Vec::with_capacity(heap, 32)?;
-        Ok(Marks { below, marks })
-    }
-
-    // Marks a line that is there. A marked line again adds nothing, and a 33rd is refused.
-    pub fn mark(&mut self, line: u64) -> Result<(), MarkRefusal>
-        ensures answer { λ r. ⌜ mark-answered r ≡ mark-answer (vec-items (now (self .entry) .marks)) (M·Memory .content (now (self .entry) .below)) line ⌝ }
-        ensures below { λ r. ⌜ now (self .exit) .below ≡ now (self .entry) .below ⌝ }
-        ensures marks { λ r. ⌜ vec-items (now (self .exit) .marks) ≡ with-mark (mark-answered r) (vec-items (now (self .entry) .marks)) line ⌝ }
-        ensures after { λ r. ⌜ under-marks (vec-items (now (self .exit) .marks)) (M·Memory .content (now (self .exit) .below)) ≡ lines-marked (mark-answered r) line (under-marks (vec-items (now (self .entry) .marks)) (M·Memory .content (now (self .entry) .below))) ⌝ }
-    {
-        if !self.below.present(line) {
-            return Err(MarkRefusal::Absent);
-        }
-        if is_marked(self.marks.as_slice(), line) {
-            return Ok(());
-        }
-        if self.marks.len() >= 32 {
-            return Err(MarkRefusal::Full);
-        }
-        self.marks.push_reserved(Mark { line });
-        Ok(())
-    }
-}
-
-pub impl<M: Memory> Memory for Marks<M> as MarksMemory {
-    ghost content = { λ m. under-marks (vec-items (m .marks)) (M·Memory .content (m .below)) };
-
-    fn present(&self, line: u64) -> bool {
-        self.below.present(line)
-    }
-
-    fn read(&self, line: u64, place: &mut [u8; 32]) -> Result<(), MemoryFault> {
-        if is_marked(self.marks.as_slice(), line) && self.below.present(line) {
-            return Err(MemoryFault::Spoiled(line));
-        }
-        self.below.read(line, place)
-    }
-
-    // The memory below gets the same write; a full one removes the line's mark.
-    fn write(&mut self, line: u64, bytes: &[u8; 32], mask: u32) -> Result<(), MemoryFault>
-        ensures answer { λ r. ⌜ r ≡ write-answer line (under-marks (vec-items (now (self .entry) .marks)) (M·Memory .content (now (self .entry) .below)) line) ⌝ }
-        ensures after { λ r. ⌜ under-marks (vec-items (now (self .exit) .marks)) (M·Memory .content (now (self .exit) .below)) ≡ written line (now (bytes .entry)) mask (under-marks (vec-items (now (self .entry) .marks)) (M·Memory .content (now (self .entry) .below))) ⌝ }
-        ensures marks { λ r. ⌜ vec-items (now (self .exit) .marks) ≡ marks-written (vec-items (now (self .entry) .marks)) (M·Memory .content (now (self .entry) .below)) line mask ⌝ }
-        ensures below { λ r. ⌜ M·Memory .content (now (self .exit) .below) ≡ written line (now (bytes .entry)) mask (M·Memory .content (now (self .entry) .below)) ⌝ }
-    {
-        self.below.write(line, bytes, mask)?;
-        if mask == u32::MAX {
-            unmark(&mut self.marks, line);
-        }
-        Ok(())
     }
 }

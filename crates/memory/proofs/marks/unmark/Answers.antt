@@ -11,7 +11,8 @@ returns-in-Some c =
       len = omega arith;
       capacity = c .remove .ensures .capacity;
       apart = ap distinct left ∙ distinct-without (c .args .marks .now .items) (c .args .line) (c .pre);
-      items = left }
+      items = left;
+    }
 
 pub returns-in-rest : need.returns-in-rest
 returns-in-rest c =
@@ -19,4 +20,5 @@ returns-in-rest c =
       len = omega arith;
       capacity = refl;
       apart = c .pre;
-      items = without-none (c .args .marks .now .items) _ (simp (c .as-slice .ensures .value) at (c .in-rest .ensures tt .finds)) }
+      items = without-none (c .args .marks .now .items) _ (simp (c .as-slice .ensures .value) at (c .in-rest .ensures tt .finds));
+    }

@@ -14,7 +14,7 @@ returns-in-Some c =
       answer = answer;
       cause = c .in-Some .ensures tt;
       held = tt;
-      judged = subst (Judged (c .args .banks .now) (c .args .n)) (sym answer) (judged (c .args .banks .now) (c .args .n))
+      judged = subst (Judged (c .args .banks .now) (c .args .n)) (sym answer) (judged (c .args .banks .now) (c .args .n));
     }
 
 pub ghost-result : need.ghost-result
@@ -31,5 +31,5 @@ returns c =
       answer = answer;
       cause = c .in-rest .ensures tt;
       held = (same, refl);
-      judged = subst (Judged (c .args .banks .now) (c .args .n)) (sym answer) (judged (c .args .banks .now) (c .args .n))
+      judged = subst (Judged (c .args .banks .now) (c .args .n)) (sym answer) (judged (c .args .banks .now) (c .args .n));
     }

@@ -10,8 +10,9 @@ use Rattle.memory.proofs.banked.Laid+BankList.zeros.Needs as need
 
 pub returns-in-Break-bytes : need.returns-in-Break-bytes
 returns-in-Break-bytes c = record {
-    content = made-from-err (c .from-residual .result) _ (c .from-residual .ensures .0);
-    exact = made-from-err (c .from-residual .result) _ (c .from-residual .ensures .0) }
+  content = made-from-err (c .from-residual .result) _ (c .from-residual .ensures .0);
+  exact = made-from-err (c .from-residual .result) _ (c .from-residual .ensures .0);
+}
 
 pub returns : need.returns
 returns c =

@@ -10,10 +10,11 @@ pub returns-then-is-marked : need.returns-then-is-marked
 returns-then-is-marked g c =
     let found = ap (λ xs. marked xs (c .args .line)) (sym (c .as-slice .ensures .value)) ∙ sym (c .if-is-marked .ensures tt) in
     record {
-    answer = search needs;
-    below = search needs;
-    marks = search needs;
-    after = mark-again (c .args .self .now .marks .items) _ (c .args .line) found (sym (c .if-not-present .ensures tt)) }
+      answer = search needs;
+      below = search needs;
+      marks = search needs;
+      after = mark-again (c .args .self .now .marks .items) _ (c .args .line) found (sym (c .if-not-present .ensures tt));
+    }
 
 pub ghost-self : need.ghost-self
 ghost-self g c =
@@ -22,7 +23,8 @@ ghost-self g c =
 
 pub returns : need.returns
 returns g c = record {
-    answer = search needs;
-    below = search needs;
-    marks = search needs;
-    after = mark-after _ _ (record { line = c .args .line }) _ (c .push-reserved .ensures .items) (sym (c .if-not-present .ensures tt)) }
+  answer = search needs;
+  below = search needs;
+  marks = search needs;
+  after = mark-after _ _ (record { line = c .args .line }) _ (c .push-reserved .ensures .items) (sym (c .if-not-present .ensures tt));
+}

@@ -1,0 +1,61 @@
+// The processor's calls.
+ghost use mathlib.Core.Bool.{cond};
+ghost use mathlib.Core.Path.{_≡_};
+ghost use Prim.Native.Nat.{_/_};
+ghost use Rattle.bridge.specs.Calls.{load, performed, processor, store};
+ghost use Rattle.bridge.specs.Processor.{bad-address, load-answered, store-answered};
+ghost use Rattle.bridge.specs.State.{state-of};
+ghost use Rattle.std.specs.declared.result.Result.the-variants.{Ok, Err};
+ghost use Rattle.bridge.specs.declared.processor.AccessRefusal.the-variants.{Memory};
+use crate::Bridge;
+use memory::Memory;
+use memory::MemoryFault;
+use memory::MemoryFaultDebug;
+use memory::MemoryFaultPartialEq;
+
+// Why a load or a store is refused: its address, or by the memory.
+#[derive(Clone, Copy, Debug, PartialEq)]
+pub enum AccessRefusal {
+    Address,
+    Memory(MemoryFault),
+}
+
+pub impl From<MemoryFault> for AccessRefusal as AccessRefusalFromMemory {
+    ghost converts = { λ fault r. r ≡ Memory fault };
+
+    fn from(fault: MemoryFault) -> AccessRefusal {
+        AccessRefusal::Memory(fault)
+    }
+}
+
+// The line at an address.
+fn line_at(address: u64) -> Result<u64, AccessRefusal>
+    ensures { λ r. ⌜ r ≡ cond (bad-address address) (Err AccessRefusal.Address) (Ok (address / 32)) ⌝ }
+{
+    if address % 32 != 0 || address >= 0x1_8000_0000 {
+        return Err(AccessRefusal::Address);
+    }
+    Ok(address / 32)
+}
+
+impl<M: Memory> Bridge<M> {
+    // The 32 bytes of the line at an address.
+    pub fn load(&self, address: u64) -> Result<[u8; 32], AccessRefusal>
+        ensures { λ r. ⌜ load-answered r ≡ performed (state-of (M·Memory .content) (now (self .entry))) (processor (load address)) .answer ⌝ }
+    {
+        let line = line_at(address)?;
+        let mut bytes = [0; 32];
+        self.memory.read(line, &mut bytes)?;
+        Ok(bytes)
+    }
+
+    // Stores 32 bytes into the line at an address.
+    pub fn store(&mut self, address: u64, bytes: &[u8; 32]) -> Result<(), AccessRefusal>
+        ensures answer { λ r. ⌜ store-answered r ≡ performed (state-of (M·Memory .content) (now (self .entry))) (processor (store address (now (bytes .entry)))) .answer ⌝ }
+        ensures after { λ r. ⌜ state-of (M·Memory .content) (now (self .exit)) ≡ performed (state-of (M·Memory .content) (now (self .entry))) (processor (store address (now (bytes .entry)))) .state ⌝ }
+    {
+        let line = line_at(address)?;
+        self.memory.write(line, bytes, u32::MAX)?;
+        Ok(())
+    }
+}
