@@ -1,14 +1,13 @@
 -- Where the lines of admitted banks lie.
-use mathlib.Core.Path.{_≡_, refl, sym, ap, subst, _∙_, fun-ext}
-use mathlib.Core.Bool.{Bool, true, false, cond}
+use mathlib.Core.Path.{_≡_, refl, sym, ap, subst, _∙_}
+use mathlib.Core.Bool.{true}
 use mathlib.Core.List.{List, [], _∷_}
 use mathlib.Core.Logic.{_⊎_, inl, inr, ⊎-elim}
 use Prim.Native.Nat.{ℕ, zero, suc, _+_, _-_, _*_, _/_, _%_, _^_, _≤_, _<_}
 use native.Mathlib.Nat.{mul-assoc}
 use native.Mathlib.Omega.{arith}
 use lib.Dec.{leb, ltb}
-use lib.ListN.{length, take, replicate}
-use Rattle.std.specs.Options.{isSome}
+use lib.ListN.{length, take}
 use Rattle.std.specs.declared.option.Option.{Option}
 use Rattle.std.specs.declared.option.Option.the-variants.{Some, None}
 use Rattle.std.proofs.shelf.Bits.{div-add-mod', pow-add}
@@ -18,11 +17,11 @@ use Rattle.std.proofs.shelf.Tests.{and-cases, and-from, and-left, and-parts, an
 use Rattle.std.proofs.shelf.Ways.{tells}
 use Rattle.memory.specs.declared.banks.Bank.{Bank}
 use Rattle.memory.specs.Content.{is-present}
-use Rattle.memory.specs.Layouts.{Apart, at-place, inside, laid-out}
+use Rattle.memory.specs.Layouts.{Apart, at-place}
 use Rattle.memory.specs.Rows.{Finds, first-index}
-use Rattle.memory.specs.Banks.{Admitted, Exact-banks, In-a-bank, Power-size, Sound, Sound-until, bank-offset, bank-places, banked, holds, nth, total}
+use Rattle.memory.specs.Banks.{Exact-banks, In-a-bank, Power-size, Sound, Sound-until, bank-offset, bank-places, banked, holds, nth, total}
 use Rattle.memory.proofs.LinesAt.{inside-all}
-use Rattle.memory.proofs.Searches.{first-finds}
+use Rattle.memory.proofs.Searches.{finds-first, first-finds}
 
 some-is : {x y : ℕ} → Some x ≡ Some y → x ≡ y
 some-is e = cc
@@ -83,6 +82,12 @@ holds-line {b = b} s address =
     (and-cases (leb (b .base) address) (ltb address (b .base + b .size)) t) ∙ sym t)
     (cases-bool (holds b address))
 
+-- the place of a line, by what the search for its bank found
+pub places-by : (banks : List Bank) (line : ℕ) (o : Option ℕ) → line < 0xC000000 → Finds (λ b. holds b (line * 32)) banks o → bank-places banks line ≡ bank-offset banks (line * 32) o
+places-by banks line o low f =
+    let e : 32 * line ≡ line * 32 = omega arith in
+    cond-true _ _ _ (lt-ltb _ _ low) ∙ ap (λ a. bank-offset banks a (first-index (λ b. holds b a) banks)) e ∙ ap (bank-offset banks (line * 32)) (sym (finds-first _ banks o f))
+
 -- a line lies in a bank that holds its address, behind the banks before that one
 record Lies (banks : List Bank) (line at : ℕ) : Type 0 where
   bank : ℕ
@@ -141,8 +146,8 @@ module _ (banks : List Bank) (sound : Sound-until banks (length banks)) where
       (cases-order (l .bank) (m .bank))
 
   -- n bytes hold every line of the banks
-  pub all-inside : (n : ℕ) (bytes : List ℕ) → total banks ≤ n → laid-out (bank-places banks) n bytes ≡ banked banks bytes
-  all-inside n bytes room = fun-ext (λ line. ap (at-place bytes) (inside-all n (bank-places banks line) (λ a e. let h = places-within line a e in omega arith)))
+  all-inside : (n : ℕ) (bytes : List ℕ) → total banks ≤ n → (line : ℕ) → banked banks n bytes line ≡ at-place bytes (bank-places banks line)
+  all-inside n bytes room line = ap (at-place bytes) (inside-all n (bank-places banks line) (λ a e. let h = places-within line a e in omega arith))
 
   single-of : (j k address : ℕ) → j < k → k < length banks → holds (nth banks j) address ≡ true → holds (nth banks k) address ≡ true → ⊥
   single-of j k address lt h t u =
@@ -164,7 +169,7 @@ module _ (banks : List Bank) (sound : Sound-until banks (length banks)) where
   in-place bytes line k h t None f = absurd (false≢true (sym (f k _ (omega arith) h) ∙ t))
   in-place bytes line k h t (Some i) f = refl
 
-  in-a-bank : (bytes : List ℕ) (address : ℕ) → In-a-bank banks address → is-present (banked banks bytes (address / 32)) ≡ true
+  in-a-bank : (bytes : List ℕ) (address : ℕ) → In-a-bank banks address → is-present (at-place bytes (bank-places banks (address / 32))) ≡ true
   in-a-bank bytes address b =
       let s = sound (b .index) (b .within) in
       let t = holds-line s address ∙ b .held in
@@ -172,12 +177,10 @@ module _ (banks : List Bank) (sound : Sound-until banks (length banks)) where
       let low : address / 32 < 0xC000000 = (let e = s .below in omega arith) in
       ap (λ o. is-present (at-place bytes o)) (cond-true _ _ _ (lt-ltb _ _ low)) ∙ in-place bytes (address / 32) (b .index) (b .within) t _ (first-finds (λ c. holds c (32 * (address / 32))) banks)
 
-  pub exact : (bytes : List ℕ) → Exact-banks banks (banked banks bytes)
-  exact bytes = record {
-    present = λ address. (present-from bytes address _ refl, in-a-bank bytes address);
+  pub exact : (n : ℕ) (bytes : List ℕ) → total banks ≤ n → Exact-banks banks (banked banks n bytes)
+  exact n bytes room = record {
+    present = λ address.
+        let same = ap is-present (all-inside n bytes room (address / 32)) in
+        (λ t. present-from bytes address _ refl (sym same ∙ t), λ b. same ∙ in-a-bank bytes address b);
     single = single;
   }
-
--- a memory of banks that was made over zero bytes
-pub made-of-zeros : (banks : List Bank) (n : ℕ) → Admitted banks n → (held : List Bank) (len : ℕ) (items : List ℕ) → held ≡ banks → len ≡ n → items ≡ replicate n 0 → laid-out (bank-places held) len items ≡ banked banks (replicate n 0)
-made-of-zeros banks n ok held len items e f g = rw (e, f, g) (all-inside banks (ok .sound) n (replicate n 0) (ok .room))

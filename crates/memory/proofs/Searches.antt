@@ -1,25 +1,15 @@
--- The first row that answers: what one turn of the search shows, and that the definition meets the relation.
+-- The first row that answers: the relation and the definition are the same.
 use mathlib.Core.Path.{_≡_, refl, sym, ap, subst, _∙_}
 use mathlib.Core.Bool.{Bool, true, false}
 use mathlib.Core.List.{List, [], _∷_}
 use mathlib.Core.Logic.{⊎-elim}
 use Prim.Native.Nat.{ℕ, zero, suc, _+_, _<_, _≤_}
 use native.Mathlib.Omega.{arith}
-use lib.ListN.{length, getD, drop}
+use lib.ListN.{length, getD}
 use Rattle.std.specs.declared.option.Option.{Option}
 use Rattle.std.specs.declared.option.Option.the-variants.{Some, None}
-use Rattle.std.proofs.shelf.Lists.{at-drop-more, at-drop-all}
 use Rattle.std.proofs.shelf.Tests.{cases-bool, cond-true, cond-false}
 use Rattle.memory.specs.Rows.{Finds, first-from, first-index}
-
-pub hit : {X : Type 0} (p : X → Bool) (xs : List X) (i : ℕ) (x : X) → i < length xs → x ≡ getD xs i x → p x ≡ true → first-from p i (drop i xs) ≡ Some i
-hit p xs i x h e t = at-drop-more (first-from p i) xs i x h ∙ cond-true (p (getD xs i x)) _ _ (ap p (sym e) ∙ t)
-
-pub miss : {X : Type 0} (p : X → Bool) (xs : List X) (i : ℕ) (x : X) → i < length xs → x ≡ getD xs i x → p x ≡ false → first-from p i (drop i xs) ≡ first-from p (i + 1) (drop (i + 1) xs)
-miss p xs i x h e t = at-drop-more (first-from p i) xs i x h ∙ cond-false (p (getD xs i x)) _ _ (ap p (sym e) ∙ t)
-
-pub none : {X : Type 0} (p : X → Bool) (xs : List X) (i : ℕ) → length xs ≤ i → first-from p i (drop i xs) ≡ None
-none p xs i h = at-drop-all (first-from p i) xs i h
 
 -- the index in a list that begins at i
 abbrev shifted : ℕ → Option ℕ → Option ℕ

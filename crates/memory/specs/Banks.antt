@@ -20,7 +20,7 @@ use Rattle.memory.specs.declared.banks.BankListRefusal.{BankListRefusal}
 use Rattle.memory.specs.declared.banks.BankListRefusal.the-variants as R
 use Rattle.memory.specs.Answers.{Answer, success, refusal}
 use Rattle.memory.specs.Content.{Lines, is-present}
-use Rattle.memory.specs.Layouts.{Places, at-place}
+use Rattle.memory.specs.Layouts.{Places, laid-out}
 use Rattle.memory.specs.Rows.{first-index}
 
 -- bank k of a list
@@ -134,6 +134,10 @@ abbrev pub Judged : List Bank → ℕ → Answer → Type 0
 Judged banks n (success values) = Admitted banks n × (values ≡ [])
 Judged banks n (refusal number values) = (number ≡ 16) × ((i : ℕ) × (values ≡ i ∷ []) × Turned-down banks n i)
 
+-- of every list, however large its numbers
+abbrev pub Bank-lists-judged : Type 0
+Bank-lists-judged = (banks : List Bank) (n : ℕ) → Judged banks n (list-answer banks n)
+
 -- Where the lines lie: the banks stand one behind the other, so a line lies in the first bank that holds its address,
 -- behind the bytes of the banks before that one.
 abbrev pub bank-offset : List Bank → ℕ → Option ℕ → Option ℕ
@@ -143,9 +147,9 @@ bank-offset banks address (Some i) = Some (total (take i banks) + (address - nth
 abbrev pub bank-places : List Bank → Places
 bank-places banks line = cond (ltb line 0xC000000) (bank-offset banks (32 * line) (first-index (λ b. holds b (32 * line)) banks)) None
 
--- what the bytes of a list of banks hold
-abbrev pub banked : List Bank → List ℕ → Lines
-banked banks bytes line = at-place bytes (bank-places banks line)
+-- what n bytes hold under a list of banks
+abbrev pub banked : List Bank → ℕ → List ℕ → Lines
+banked banks n bytes = laid-out (bank-places banks) n bytes
 
 -- some bank of the list holds the address
 pub record In-a-bank (banks : List Bank) (address : ℕ) : Type 0 where

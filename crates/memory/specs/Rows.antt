@@ -16,7 +16,12 @@ first-from answers i (row ∷ rows) = cond (answers row) (Some i) (first-from an
 abbrev pub first-index : {X : Type 0} → (X → Bool) → List X → Option ℕ
 first-index answers rows = first-from answers 0 rows
 
--- the same as a relation: none exactly if no row answers; else that row does, and none before it
+-- the rule as a relation: none exactly if no row answers; else that row does, and none before it
 abbrev pub Finds : {X : Type 0} → (X → Bool) → List X → Option ℕ → Type 0
 Finds answers rows None = Every (λ row. answers row ≡ false) rows 0 (length rows)
 Finds answers rows (Some i) = (i < length rows) × At (λ row. answers row ≡ true) rows i × Every (λ row. answers row ≡ false) rows 0 i
+
+-- the relation holds of the index that is computed, and of no other answer
+pub record Found-once {X : Type 0} (answers : X → Bool) (rows : List X) : Type 0 where
+  pub some : Finds answers rows (first-index answers rows)
+  pub only : (o : Option ℕ) → Finds answers rows o → o ≡ first-index answers rows

@@ -1,7 +1,8 @@
 // Banks laid one behind the other in one run of bytes.
 ghost use lib.ListN.{replicate};
+ghost use mathlib.Core.List.{List};
 ghost use mathlib.Core.Path.{_≡_};
-ghost use Prim.Native.Nat.{_^_, _<_};
+ghost use Prim.Native.Nat.{ℕ, _^_, _<_};
 ghost use Rattle.memory.specs.Banks.{Exact-banks, bank-places, banked, total};
 ghost use Rattle.memory.specs.Layers.{banks-of, lines-laid};
 ghost use Rattle.std.specs.Vec.{made};
@@ -43,10 +44,16 @@ pub type Banked = Laid<BankList>;
 impl Laid<BankList> {
     // The banks of a list, over as many zero bytes as it was made for.
     pub fn zeros(heap: Global, list: BankList) -> Result<Banked, AllocError>
-        ensures content { λ r. ⌜ made r (λ m. lines-laid (λ l. bank-places (banks-of l)) m ≡ banked (banks-of list) (replicate (list .room) 0)) ⌝ }
-        ensures exact { λ r. ⌜ made r (λ m. Exact-banks (banks-of list) (lines-laid (λ l. bank-places (banks-of l)) m)) ⌝ }
+        ensures { λ r. ⌜ made r (λ m. lines-laid (λ l. bank-places (banks-of l)) m ≡ banked (banks-of list) (list .room) (replicate (list .room) 0)) ⌝ }
     {
-        let bytes = vec![in heap; 0; list.room()]?;
-        Ok(Laid::new(list, bytes))
+        let n = list.room();
+        Laid::over_zeros(heap, list, n)
     }
+}
+
+impl BankList {
+    // Whatever the bytes hold, exactly the addresses of the banks are present, and none is in two banks.
+    pub fn holds_exactly(&self)
+        ensures { λ _. ⌜ ((bytes : List ℕ) → Exact-banks (banks-of (now (self .entry))) (banked (banks-of (now (self .entry))) (now (self .entry) .room) bytes)) ⌝ }
+    {}
 }

@@ -2,9 +2,10 @@
 ghost use lib.Dec.{leb};
 ghost use lib.ListN.{length};
 ghost use Prim.Native.Nat.{_+_, _*_, _^_, _<_, _≤_};
-ghost use mathlib.Core.Bool.{true};
+ghost use mathlib.Core.Bool.{cond, true};
 ghost use mathlib.Core.Path.{_≡_};
 ghost use Rattle.memory.specs.Banks.{apart, bank-fault, clear, holds, list-fault, size-fits, total};
+ghost use Rattle.std.specs.declared.option.Option.the-variants.{Some, None};
 use crate::rows::Row;
 
 // A bank holds the addresses from its base up to base + size.
@@ -33,6 +34,9 @@ pub enum BankListRefusal {
 
 // No memory has an address from here up.
 const END: u64 = 0x1_8000_0000;
+
+// A list has at most this many banks.
+const MOST: usize = 8;
 
 pub impl Row for Bank as BankRow {
     ghost answers = { holds };
@@ -91,11 +95,22 @@ impl Bank {
     }
 }
 
+// What is wrong with a total of sizes for n bytes.
+fn total_fault(sum: usize, n: usize) -> Option<BankListRefusal>
+    ensures { λ r. ⌜ r ≡ cond (leb sum n) None (Some BankListRefusal.Total) ⌝ }
+{
+    if sum > n {
+        Some(BankListRefusal::Total)
+    } else {
+        None
+    }
+}
+
 // What is wrong with a list of banks for n bytes.
 pub(crate) fn fault_of(banks: &[Bank], n: usize) -> Option<BankListRefusal>
     ensures { λ r. ⌜ r ≡ list-fault (now (banks .entry)) n ⌝ }
 {
-    if banks.len() == 0 || banks.len() > 8 {
+    if banks.len() == 0 || banks.len() > MOST {
         return Some(BankListRefusal::Count);
     }
     let mut sum = 0;
@@ -105,11 +120,7 @@ pub(crate) fn fault_of(banks: &[Bank], n: usize) -> Option<BankListRefusal>
         }
         sum += bank.size as usize;
     }
-    if sum > n {
-        Some(BankListRefusal::Total)
-    } else {
-        None
-    }
+    total_fault(sum, n)
 }
 
 // The bytes of all the banks.

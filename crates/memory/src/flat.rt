@@ -40,6 +40,6 @@ impl Laid<FromZero> {
     pub fn zeros(heap: Global, n: usize) -> Result<Flat, AllocError>
         ensures { λ r. ⌜ made r (λ m. lines-laid (λ _. from-zero) m ≡ flat n (replicate n 0)) ⌝ }
     {
-        Ok(Laid::new(FromZero, vec![in heap; 0; n]?))
+        Laid::over_zeros(heap, FromZero, n)
     }
 }

@@ -1,12 +1,16 @@
 // A memory whose lines lie in one run of bytes, where a layout places them.
+ghost use lib.ListN.{replicate};
 ghost use mathlib.Core.Path.{_≡_};
 ghost use Rattle.memory.specs.Layers.{lines-laid};
 ghost use Rattle.memory.specs.Layouts.{Apart, Placed-below, Places, inside};
-ghost use Rattle.std.specs.Of.Vec.{vec-len};
+ghost use Rattle.std.specs.Of.Vec.{vec-items, vec-len};
+ghost use Rattle.std.specs.Vec.{made};
 use crate::Memory;
 use crate::MemoryFault;
 use crate::line::fetch;
 use crate::line::put;
+use std::alloc::AllocError;
+use std::alloc::Global;
 
 // Where the lines lie: no two share a byte, and lines from C000000h up lie nowhere.
 pub trait Layout {
@@ -32,6 +36,16 @@ impl<L: Layout> Laid<L> {
         ensures { λ r. ⌜ (r .layout ≡ layout) × (r .bytes ≡ bytes) ⌝ }
     {
         Laid { layout, bytes }
+    }
+
+    // Bytes that are all 0, under a layout.
+    pub(crate) fn over_zeros(heap: Global, layout: L, n: usize) -> Result<Laid<L>, AllocError>
+    where
+        L: Drop,
+        ensures { λ r. ⌜ made r (λ m. (m .layout ≡ layout) × (vec-len (m .bytes) ≡ n) × (vec-items (m .bytes) ≡ replicate n 0)) ⌝ }
+    {
+        let bytes = vec![in heap; 0; n]?;
+        Ok(Laid { layout, bytes })
     }
 
     fn offset_of(&self, line: u64) -> Option<usize>

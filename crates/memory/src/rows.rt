@@ -2,7 +2,7 @@
 ghost use mathlib.Core.Bool.{Bool};
 ghost use mathlib.Core.Path.{_≡_};
 ghost use Prim.Native.Nat.{ℕ};
-ghost use Rattle.memory.specs.Rows.{Finds, first-index};
+ghost use Rattle.memory.specs.Rows.{Finds, Found-once};
 
 // A kind of row says for which numbers it answers.
 pub trait Row {
@@ -14,8 +14,7 @@ pub trait Row {
 
 // The index of the first row that answers for n; none exactly if no row does.
 pub fn find<R: Row>(rows: &[R], n: u64) -> Option<usize>
-    ensures finds { λ r. ⌜ Finds (λ row. answers row n) (now (rows .entry)) r ⌝ }
-    ensures value { λ r. ⌜ r ≡ first-index (λ row. answers row n) (now (rows .entry)) ⌝ }
+    ensures { λ r. ⌜ Finds (λ row. answers row n) (now (rows .entry)) r ⌝ }
 {
     for (i, row) in rows.iter().enumerate() {
         if row.answers(n) {
@@ -24,3 +23,8 @@ pub fn find<R: Row>(rows: &[R], n: u64) -> Option<usize>
     }
     None
 }
+
+// What `find` may answer is one thing: what `first-index` computes.
+pub fn found_once<R: Row>(rows: &[R], n: u64)
+    ensures { λ _. ⌜ Found-once (λ row. answers row n) (now (rows .entry)) ⌝ }
+{}

