@@ -2,8 +2,9 @@
 ghost use mathlib.Core.Bool.{cond};
 ghost use mathlib.Core.Path.{_≡_};
 ghost use Prim.Native.Nat.{_/_};
+ghost use Rattle.memory.specs.Answers.{number-of};
 ghost use Rattle.bridge.specs.Calls.{load, performed, processor, store};
-ghost use Rattle.bridge.specs.Processor.{bad-address, load-answered, store-answered};
+ghost use Rattle.bridge.specs.Processor.{access-refusal, bad-address, load-answered, store-answered};
 ghost use Rattle.bridge.specs.State.{state-of};
 ghost use Rattle.std.specs.declared.result.Result.the-variants.{Ok, Err};
 ghost use Rattle.bridge.specs.declared.processor.AccessRefusal.the-variants.{Memory};
@@ -18,6 +19,19 @@ use memory::MemoryFaultPartialEq;
 pub enum AccessRefusal {
     Address,
     Memory(MemoryFault),
+}
+
+impl AccessRefusal {
+    // The number of the cause.
+    pub fn number(&self) -> u8
+        ensures { λ r. ⌜ r ≡ number-of (access-refusal (now (self .entry))) ⌝ }
+    {
+        match self {
+            AccessRefusal::Address => 11,
+            AccessRefusal::Memory(MemoryFault::Absent(_)) => 14,
+            AccessRefusal::Memory(MemoryFault::Spoiled(_)) => 15,
+        }
+    }
 }
 
 pub impl From<MemoryFault> for AccessRefusal as AccessRefusalFromMemory {

@@ -1,4 +1,5 @@
 pub mod Answers
+pub mod Bytes
 pub mod Content
 pub mod Rows
 pub mod Layouts

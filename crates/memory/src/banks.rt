@@ -3,8 +3,10 @@ ghost use lib.Dec.{leb};
 ghost use lib.ListN.{length};
 ghost use Prim.Native.Nat.{_+_, _*_, _^_, _<_, _≤_};
 ghost use mathlib.Core.Bool.{cond, true};
+ghost use mathlib.Core.List.{[], _∷_};
 ghost use mathlib.Core.Path.{_≡_};
-ghost use Rattle.memory.specs.Banks.{apart, bank-fault, clear, holds, list-fault, size-fits, total};
+ghost use Rattle.memory.specs.Banks.{apart, bank-fault, clear, holds, list-fault, list-refusal, size-fits, total};
+ghost use Rattle.memory.specs.Answers.{number-of, refusal};
 ghost use Rattle.std.specs.declared.option.Option.the-variants.{Some, None};
 use crate::rows::Row;
 
@@ -30,6 +32,27 @@ pub enum BankListRefusal {
     Count,
     Bank(usize, BankFault),
     Total,
+}
+
+impl BankListRefusal {
+    // The number of the cause, the same for every list that is refused.
+    pub fn number(&self) -> u8
+        ensures { λ r. ⌜ r ≡ number-of (list-refusal (now (self .entry))) ⌝ }
+    {
+        match self {
+            BankListRefusal::Count | BankListRefusal::Bank(_, _) | BankListRefusal::Total => 16,
+        }
+    }
+
+    // The index of the bank at fault, or 8 for the count or the total.
+    pub fn index(&self) -> usize
+        ensures { λ r. ⌜ list-refusal (now (self .entry)) ≡ refusal 16 (r ∷ []) ⌝ }
+    {
+        match self {
+            BankListRefusal::Count | BankListRefusal::Total => 8,
+            BankListRefusal::Bank(i, _) => *i,
+        }
+    }
 }
 
 // No memory has an address from here up.

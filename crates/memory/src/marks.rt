@@ -5,7 +5,8 @@ ghost use lib.Dec.{eqb};
 ghost use mathlib.Core.Bool.{true};
 ghost use mathlib.Core.Path.{_≡_};
 ghost use Prim.Native.Nat.{_≤_};
-ghost use Rattle.memory.specs.Marked.{distinct, marked, without};
+ghost use Rattle.memory.specs.Answers.{number-of};
+ghost use Rattle.memory.specs.Marked.{distinct, mark-refusal, marked, without};
 ghost use Rattle.std.specs.Of.Vec.{vec-cap, vec-items, vec-len};
 use crate::Memory;
 use crate::rows::Row;
@@ -30,6 +31,18 @@ pub impl Row for Mark as MarkRow {
 pub enum MarkRefusal {
     Absent,
     Full,
+}
+
+impl MarkRefusal {
+    // The number of the cause.
+    pub fn number(&self) -> u8
+        ensures { λ r. ⌜ r ≡ number-of (mark-refusal (now (self .entry))) ⌝ }
+    {
+        match self {
+            MarkRefusal::Absent => 14,
+            MarkRefusal::Full => 17,
+        }
+    }
 }
 
 // A memory with up to 32 marked lines, which are spoiled besides those that are spoiled below. The room for the marks is
