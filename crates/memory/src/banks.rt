@@ -11,7 +11,7 @@ ghost use Rattle.std.specs.declared.option.Option.the-variants.{Some, None};
 use crate::rows::Row;
 
 // A bank holds the addresses from its base up to base + size.
-#[derive(Clone, Copy)]
+#[derive(Clone, Copy, Default)]
 pub struct Bank {
     pub base: u64,
     pub size: u64,

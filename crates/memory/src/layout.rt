@@ -55,7 +55,7 @@ impl<L: Layout> Laid<L> {
             return None;
         };
         let n = self.bytes.len();
-        if at <= n && 32 <= n - at {
+        if 32 <= n && at <= n - 32 {
             Some(at)
         } else {
             None

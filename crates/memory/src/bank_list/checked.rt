@@ -5,6 +5,7 @@ ghost use Rattle.memory.specs.Layers.{banks-of};
 ghost use Rattle.std.specs.Vec.{made};
 use crate::bank_list::BankList;
 use crate::banks::Bank;
+use crate::banks::BankDefault;
 use crate::banks::BankListRefusal;
 use crate::banks::fault_of;
 
@@ -18,7 +19,7 @@ impl BankList {
         if let Some(fault) = fault_of(banks, n) {
             return Err(fault);
         }
-        let mut kept = [Bank { base: 0, size: 0 }; 8];
+        let mut kept = [Bank::default(); 8];
         let count = banks.len();
         kept[0..count].copy_from_slice(banks);
         Ok(BankList {
