@@ -3,32 +3,22 @@ use mathlib.Core.Bool.{Bool, not, _||_, cond}
 use mathlib.Core.List.{List, []}
 use Prim.Native.Nat.{ℕ, _/_, _%_}
 use lib.Dec.{eqb, leb}
-use Rattle.std.specs.declared.result.Result.{Result}
-use Rattle.std.specs.declared.result.Result.the-variants.{Ok, Err}
 use Rattle.memory.specs.declared.MemoryFault.the-variants.{Absent, Spoiled}
-use Rattle.memory.specs.Answers.{Answer, success, refusal}
+use Rattle.memory.specs.Answers.{Answer, Cause, bare, success, refusal}
 use Rattle.memory.specs.Content.{Content, Lines, absent, all-ones, good, spoiled, written}
 use Rattle.bridge.specs.declared.processor.AccessRefusal.{AccessRefusal}
 use Rattle.bridge.specs.declared.processor.AccessRefusal.the-variants as R
 
 -- each refusal by its number; nothing further is returned
-abbrev pub access-refusal : AccessRefusal → Answer
-access-refusal R.Address = refusal 11 []
-access-refusal (R.Memory (Absent line)) = refusal 14 []
-access-refusal (R.Memory (Spoiled line)) = refusal 15 []
-
--- a load answers the 32 bytes of its line
-abbrev pub load-answered : Result (List ℕ) AccessRefusal → Answer
-load-answered (Ok bytes) = success bytes
-load-answered (Err r) = access-refusal r
-
-abbrev pub store-answered : Result Unit AccessRefusal → Answer
-store-answered (Ok _) = success []
-store-answered (Err r) = access-refusal r
+abbrev pub access-cause : AccessRefusal → Cause
+access-cause R.Address = bare 11
+access-cause (R.Memory (Absent line)) = bare 14
+access-cause (R.Memory (Spoiled line)) = bare 15
 
 abbrev pub bad-address : ℕ → Bool
 bad-address address = not (eqb (address % 32) 0) || leb 0x1_8000_0000 address
 
+-- a load answers the 32 bytes of its line
 abbrev pub loaded : Content → Answer
 loaded absent = refusal 14 []
 loaded spoiled = refusal 15 []

@@ -2,9 +2,9 @@
 ghost use mathlib.Core.Bool.{cond};
 ghost use mathlib.Core.Path.{_≡_};
 ghost use Prim.Native.Nat.{_/_};
-ghost use Rattle.memory.specs.Answers.{number-of};
+ghost use Rattle.memory.specs.Answers.{answered, no-values};
 ghost use Rattle.bridge.specs.Calls.{load, performed, processor, store};
-ghost use Rattle.bridge.specs.Processor.{access-refusal, bad-address, load-answered, store-answered};
+ghost use Rattle.bridge.specs.Processor.{access-cause, bad-address};
 ghost use Rattle.bridge.specs.State.{state-of};
 ghost use Rattle.std.specs.declared.result.Result.the-variants.{Ok, Err};
 ghost use Rattle.bridge.specs.declared.processor.AccessRefusal.the-variants.{Memory};
@@ -13,6 +13,7 @@ use memory::Memory;
 use memory::MemoryFault;
 use memory::MemoryFaultDebug;
 use memory::MemoryFaultPartialEq;
+use memory::refusals::Refusal;
 
 // Why a load or a store is refused: its address, or by the memory.
 #[derive(Clone, Copy, Debug, PartialEq)]
@@ -21,11 +22,10 @@ pub enum AccessRefusal {
     Memory(MemoryFault),
 }
 
-impl AccessRefusal {
-    // The number of the cause.
-    pub fn number(&self) -> u8
-        ensures { λ r. ⌜ r ≡ number-of (access-refusal (now (self .entry))) ⌝ }
-    {
+pub impl Refusal for AccessRefusal as AccessRefusalNumbered {
+    ghost cause = { access-cause };
+
+    fn number(&self) -> u8 {
         match self {
             AccessRefusal::Address => 11,
             AccessRefusal::Memory(MemoryFault::Absent(_)) => 14,
@@ -55,7 +55,7 @@ fn line_at(address: u64) -> Result<u64, AccessRefusal>
 impl<M: Memory> Bridge<M> {
     // The 32 bytes of the line at an address.
     pub fn load(&self, address: u64) -> Result<[u8; 32], AccessRefusal>
-        ensures { λ r. ⌜ load-answered r ≡ performed (state-of (M·Memory .content) (now (self .entry))) (processor (load address)) .answer ⌝ }
+        ensures { λ r. ⌜ answered (λ bytes. bytes) access-cause r ≡ performed (state-of (M·Memory .content) (now (self .entry))) (processor (load address)) .answer ⌝ }
     {
         let line = line_at(address)?;
         let mut bytes = [0; 32];
@@ -65,7 +65,7 @@ impl<M: Memory> Bridge<M> {
 
     // Stores 32 bytes into the line at an address.
     pub fn store(&mut self, address: u64, bytes: &[u8; 32]) -> Result<(), AccessRefusal>
-        ensures answer { λ r. ⌜ store-answered r ≡ performed (state-of (M·Memory .content) (now (self .entry))) (processor (store address (now (bytes .entry)))) .answer ⌝ }
+        ensures answer { λ r. ⌜ answered no-values access-cause r ≡ performed (state-of (M·Memory .content) (now (self .entry))) (processor (store address (now (bytes .entry)))) .answer ⌝ }
         ensures after { λ r. ⌜ state-of (M·Memory .content) (now (self .exit)) ≡ performed (state-of (M·Memory .content) (now (self .entry))) (processor (store address (now (bytes .entry)))) .state ⌝ }
     {
         let line = line_at(address)?;

@@ -18,7 +18,7 @@ use Rattle.memory.specs.declared.banks.BankFault.{BankFault}
 use Rattle.memory.specs.declared.banks.BankFault.the-variants.{Size, Base, End, Overlap}
 use Rattle.memory.specs.declared.banks.BankListRefusal.{BankListRefusal}
 use Rattle.memory.specs.declared.banks.BankListRefusal.the-variants as R
-use Rattle.memory.specs.Answers.{Answer, success, refusal}
+use Rattle.memory.specs.Answers.{Answer, Cause, success, refusal}
 use Rattle.memory.specs.Content.{Lines, is-present}
 use Rattle.memory.specs.Layouts.{Places, laid-out}
 use Rattle.memory.specs.Rows.{first-index}
@@ -78,25 +78,21 @@ abbrev pub list-fault : List Bank → ℕ → Option BankListRefusal
 list-fault banks n = cond (count-fits (length banks)) (unless-total banks n (fault-from 0 [] banks)) (Some R.Count)
 
 -- every refusal of a bank list is number 16, with the index of the bank, or 8 for the count or the total
-abbrev pub list-refusal : BankListRefusal → Answer
-list-refusal R.Count = refusal 16 (8 ∷ [])
-list-refusal (R.Bank i fault) = refusal 16 (i ∷ [])
-list-refusal R.Total = refusal 16 (8 ∷ [])
+abbrev pub list-cause : BankListRefusal → Cause
+list-cause R.Count = record { number = 16; values = 8 ∷ [] }
+list-cause (R.Bank i fault) = record { number = 16; values = i ∷ [] }
+list-cause R.Total = record { number = 16; values = 8 ∷ [] }
 
 abbrev pub answer-by : Option BankListRefusal → Answer
 answer-by None = success []
-answer-by (Some fault) = list-refusal fault
+answer-by (Some fault) = refusal (list-cause fault .number) (list-cause fault .values)
 
 abbrev pub list-answer : List Bank → ℕ → Answer
 list-answer banks n = answer-by (list-fault banks n)
 
-abbrev pub list-answered : {L : Type 0} → Result L BankListRefusal → Answer
-list-answered (Ok list) = success []
-list-answered (Err fault) = list-refusal fault
-
-abbrev pub list-cause : {L : Type 0} → Result L BankListRefusal → Option BankListRefusal
-list-cause (Ok list) = None
-list-cause (Err fault) = Some fault
+abbrev pub fault-in : {L : Type 0} → Result L BankListRefusal → Option BankListRefusal
+fault-in (Ok list) = None
+fault-in (Err fault) = Some fault
 
 -- The rules. Sizes are the powers of two from 2000h to 4000_0000h.
 pub record Power-size (size : ℕ) : Type 0 where

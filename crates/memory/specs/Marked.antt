@@ -5,12 +5,10 @@ use mathlib.Core.List.{List, [], _∷_, _++_}
 use Prim.Native.Nat.{ℕ}
 use lib.Dec.{eqb, leb}
 use lib.ListN.{length}
-use Rattle.std.specs.declared.result.Result.{Result}
-use Rattle.std.specs.declared.result.Result.the-variants.{Ok, Err}
 use Rattle.memory.specs.declared.marks.Mark.{Mark}
 use Rattle.memory.specs.declared.marks.MarkRefusal.{MarkRefusal}
 use Rattle.memory.specs.declared.marks.MarkRefusal.the-variants.{Absent, Full}
-use Rattle.memory.specs.Answers.{Answer, success, refusal}
+use Rattle.memory.specs.Answers.{Answer, Cause, bare, success, refusal}
 use Rattle.memory.specs.Content.{Content, Lines, absent, spoiled, good, is-present, all-ones}
 
 abbrev pub marked : List Mark → ℕ → Bool
@@ -32,13 +30,9 @@ abbrev pub under-marks : List Mark → Lines → Lines
 under-marks marks below line = cond (marked marks line) (spoil (below line)) (below line)
 
 -- 14 for an absent line, then 17 for a 33rd mark; a marked line again adds nothing
-abbrev pub mark-refusal : MarkRefusal → Answer
-mark-refusal Absent = refusal 14 []
-mark-refusal Full = refusal 17 []
-
-abbrev pub mark-answered : Result Unit MarkRefusal → Answer
-mark-answered (Ok _) = success []
-mark-answered (Err refused) = mark-refusal refused
+abbrev pub mark-cause : MarkRefusal → Cause
+mark-cause Absent = bare 14
+mark-cause Full = bare 17
 
 abbrev pub mark-answer : List Mark → Lines → ℕ → Answer
 mark-answer marks below line =

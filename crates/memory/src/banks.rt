@@ -5,9 +5,9 @@ ghost use Prim.Native.Nat.{_+_, _*_, _^_, _<_, _≤_};
 ghost use mathlib.Core.Bool.{cond, true};
 ghost use mathlib.Core.List.{[], _∷_};
 ghost use mathlib.Core.Path.{_≡_};
-ghost use Rattle.memory.specs.Banks.{apart, bank-fault, clear, holds, list-fault, list-refusal, size-fits, total};
-ghost use Rattle.memory.specs.Answers.{number-of, refusal};
+ghost use Rattle.memory.specs.Banks.{apart, bank-fault, clear, holds, list-cause, list-fault, size-fits, total};
 ghost use Rattle.std.specs.declared.option.Option.the-variants.{Some, None};
+use crate::refusals::Refusal;
 use crate::rows::Row;
 
 // A bank holds the addresses from its base up to base + size.
@@ -34,19 +34,20 @@ pub enum BankListRefusal {
     Total,
 }
 
-impl BankListRefusal {
-    // The number of the cause, the same for every list that is refused.
-    pub fn number(&self) -> u8
-        ensures { λ r. ⌜ r ≡ number-of (list-refusal (now (self .entry))) ⌝ }
-    {
+pub impl Refusal for BankListRefusal as BankListRefusalNumbered {
+    ghost cause = { list-cause };
+
+    fn number(&self) -> u8 {
         match self {
             BankListRefusal::Count | BankListRefusal::Bank(_, _) | BankListRefusal::Total => 16,
         }
     }
+}
 
+impl BankListRefusal {
     // The index of the bank at fault, or 8 for the count or the total.
     pub fn index(&self) -> usize
-        ensures { λ r. ⌜ list-refusal (now (self .entry)) ≡ refusal 16 (r ∷ []) ⌝ }
+        ensures { λ r. ⌜ list-cause (now (self .entry)) ≡ record { number = 16; values = r ∷ [] } ⌝ }
     {
         match self {
             BankListRefusal::Count | BankListRefusal::Total => 8,

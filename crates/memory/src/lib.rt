@@ -6,6 +6,7 @@ pub mod flat;
 pub mod layout;
 mod line;
 pub mod marks;
+pub mod refusals;
 pub mod rows;
 
 ghost use mathlib.Core.Path.{_≡_};

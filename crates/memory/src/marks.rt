@@ -5,10 +5,10 @@ ghost use lib.Dec.{eqb};
 ghost use mathlib.Core.Bool.{true};
 ghost use mathlib.Core.Path.{_≡_};
 ghost use Prim.Native.Nat.{_≤_};
-ghost use Rattle.memory.specs.Answers.{number-of};
-ghost use Rattle.memory.specs.Marked.{distinct, mark-refusal, marked, without};
+ghost use Rattle.memory.specs.Marked.{distinct, mark-cause, marked, without};
 ghost use Rattle.std.specs.Of.Vec.{vec-cap, vec-items, vec-len};
 use crate::Memory;
+use crate::refusals::Refusal;
 use crate::rows::Row;
 use crate::rows::find;
 
@@ -33,11 +33,10 @@ pub enum MarkRefusal {
     Full,
 }
 
-impl MarkRefusal {
-    // The number of the cause.
-    pub fn number(&self) -> u8
-        ensures { λ r. ⌜ r ≡ number-of (mark-refusal (now (self .entry))) ⌝ }
-    {
+pub impl Refusal for MarkRefusal as MarkRefusalNumbered {
+    ghost cause = { mark-cause };
+
+    fn number(&self) -> u8 {
         match self {
             MarkRefusal::Absent => 14,
             MarkRefusal::Full => 17,

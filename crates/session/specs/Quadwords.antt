@@ -5,12 +5,8 @@ use Prim.Native.Nat.{ℕ, _*_, _/_, _%_}
 use lib.Dec.{eqb}
 use lib.ListN.{take, drop}
 use borrow.Rule.Slice.PartMut.{putMid}
-use Rattle.std.specs.declared.result.Result.{Result}
-use Rattle.std.specs.declared.result.Result.the-variants.{Ok, Err}
 use Rattle.memory.specs.Answers.{Answer, success, refusal}
 use Rattle.memory.specs.Bytes.{joined, low-bytes}
-use Rattle.bridge.specs.declared.processor.AccessRefusal.{AccessRefusal}
-use Rattle.bridge.specs.Processor.{access-refusal}
 use Rattle.bridge.specs.State.{State}
 use Rattle.bridge.specs.Calls.{Outcome, load, performed, processor, store}
 
@@ -37,10 +33,6 @@ quadword-from offset (refusal number values) = refusal number values
 -- cpu-load: the line is loaded and the quadword taken out, refused as the load is
 abbrev pub cpu-load : State → ℕ → Answer
 cpu-load s address = cond (eqb (address % 8) 0) (quadword-from (address % 32) (line-load s address)) (refusal 11 [])
-
-abbrev pub quadword-answered : Result ℕ AccessRefusal → Answer
-quadword-answered (Ok value) = success (value ∷ [])
-quadword-answered (Err refused) = access-refusal refused
 
 abbrev pub store-back : State → ℕ → ℕ → Answer → Outcome
 store-back s address value (success line) = performed s (processor (store (line-start address) (with-quadword (address % 32) value line)))

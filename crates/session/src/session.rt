@@ -1,14 +1,15 @@
 // A session: a bridge over zero bytes under marks, and what each form does to it.
 ghost use lib.ListN.{replicate};
+ghost use mathlib.Core.List.{[], _∷_};
 ghost use mathlib.Core.Path.{_≡_};
 ghost use Rattle.memory.specs.Layouts.{flat};
-ghost use Rattle.memory.specs.Marked.{mark-answered};
-ghost use Rattle.bridge.specs.Processor.{store-answered};
+ghost use Rattle.memory.specs.Answers.{answered, no-values};
+ghost use Rattle.bridge.specs.Processor.{access-cause};
 ghost use Rattle.bridge.specs.State.{new-state};
 ghost use Rattle.session.specs.Forms.{asked};
-ghost use Rattle.session.specs.Quadwords.{cpu-load, cpu-store, quadword-answered};
+ghost use Rattle.session.specs.Quadwords.{cpu-load, cpu-store};
 ghost use Rattle.session.specs.Sessions.{Answered, form-answer, form-state, replied, session-state};
-ghost use Rattle.std.specs.Vec.{made, refused};
+ghost use Rattle.std.specs.Vec.{made, refused as unless-made};
 use crate::forms::Form;
 use crate::forms::read_form;
 use crate::lexer::LineError;
@@ -17,12 +18,14 @@ use crate::quadwords::quadword;
 use crate::replies::Reply;
 use bridge::Bridge;
 use bridge::processor::AccessRefusal;
+use bridge::processor::AccessRefusalNumbered;
 use memory::flat::Flat;
 use memory::flat::FromZeroLayout;
 use memory::layout::LaidMemory;
-use memory::marks::MarkRefusal;
+use memory::marks::MarkRefusalNumbered;
 use memory::marks::Marks;
 use memory::marks::layer::MarksMemory;
+use memory::refusals::Refusal;
 use std::alloc::AllocError;
 use std::alloc::Global;
 
@@ -57,7 +60,7 @@ impl Session {
 
     // The quadword at an address.
     fn cpu_load(&self, address: u64) -> Result<u64, AccessRefusal>
-        ensures { λ r. ⌜ quadword-answered r ≡ cpu-load (session-state (now (self .entry))) address ⌝ }
+        ensures { λ r. ⌜ answered (λ value. value ∷ []) access-cause r ≡ cpu-load (session-state (now (self .entry))) address ⌝ }
     {
         if address % 8 != 0 {
             return Err(AccessRefusal::Address);
@@ -68,7 +71,7 @@ impl Session {
 
     // Stores a quadword at an address, by way of its line.
     fn cpu_store(&mut self, address: u64, value: u64) -> Result<(), AccessRefusal>
-        ensures answer { λ r. ⌜ store-answered r ≡ cpu-store (session-state (now (self .entry))) address value .answer ⌝ }
+        ensures answer { λ r. ⌜ answered no-values access-cause r ≡ cpu-store (session-state (now (self .entry))) address value .answer ⌝ }
         ensures after { λ r. ⌜ session-state (now (self .exit)) ≡ cpu-store (session-state (now (self .entry))) address value .state ⌝ }
     {
         if address % 8 != 0 {
@@ -87,15 +90,15 @@ impl Session {
     {
         match form {
             Form::CpuStore { address, value } => done(self.cpu_store(*address, *value)),
-            Form::CpuLoad { address } => loaded(self.cpu_load(*address)),
-            Form::Mark { line } => marked(self.bridge.mark(*line)),
+            Form::CpuLoad { address } => valued(self.cpu_load(*address)),
+            Form::Mark { line } => done(self.bridge.mark(*line)),
         }
     }
 
     // The reply to a line. All memory that is needed is had before the bridge is called.
     pub fn answer(&mut self, heap: Global, line: &[u8]) -> Result<Reply, AllocError>
         ensures answered { λ r. ⌜ made r (λ reply. Answered (now (self .entry)) (now (line .entry)) reply (now (self .exit))) ⌝ }
-        ensures unchanged { λ r. ⌜ refused r (λ _. now (self .exit) ≡ now (self .entry)) ⌝ }
+        ensures unchanged { λ r. ⌜ unless-made r (λ _. now (self .exit) ≡ now (self .entry)) ⌝ }
     {
         match read_form(heap, line) {
             Ok(form) => Ok(self.perform(&form)),
@@ -107,35 +110,30 @@ impl Session {
     }
 }
 
-fn done(result: Result<(), AccessRefusal>) -> Reply
-    ensures { λ r. ⌜ r ≡ replied (store-answered result) ⌝ }
+// The reply of a call that returns nothing.
+fn done<R: Refusal + Drop>(result: Result<(), R>) -> Reply
+    ensures { λ r. ⌜ r ≡ replied (answered no-values (R·Refusal .cause) result) ⌝ }
 {
     match result {
         Ok(()) => Reply::Done,
-        Err(refusal) => Reply::Refused {
-            number: u64::from(refusal.number()),
-        },
+        Err(refusal) => refused(&refusal),
     }
 }
 
-fn loaded(result: Result<u64, AccessRefusal>) -> Reply
-    ensures { λ r. ⌜ r ≡ replied (quadword-answered result) ⌝ }
+// The reply of a call that returns a value.
+fn valued<R: Refusal + Drop>(result: Result<u64, R>) -> Reply
+    ensures { λ r. ⌜ r ≡ replied (answered (λ value. value ∷ []) (R·Refusal .cause) result) ⌝ }
 {
     match result {
         Ok(value) => Reply::Value(value),
-        Err(refusal) => Reply::Refused {
-            number: u64::from(refusal.number()),
-        },
+        Err(refusal) => refused(&refusal),
     }
 }
 
-fn marked(result: Result<(), MarkRefusal>) -> Reply
-    ensures { λ r. ⌜ r ≡ replied (mark-answered result) ⌝ }
+fn refused<R: Refusal>(refusal: &R) -> Reply
+    ensures { λ r. ⌜ r ≡ Reply.Refused (R·Refusal .cause (now (refusal .entry)) .number) ⌝ }
 {
-    match result {
-        Ok(()) => Reply::Done,
-        Err(refusal) => Reply::Refused {
-            number: u64::from(refusal.number()),
-        },
+    Reply::Refused {
+        number: u64::from(refusal.number()),
     }
 }

@@ -1,6 +1,7 @@
 // How a list of banks is made and read.
 ghost use mathlib.Core.Path.{_≡_};
-ghost use Rattle.memory.specs.Banks.{Bank-lists-judged, list-answer, list-answered, list-cause, list-fault};
+ghost use Rattle.memory.specs.Answers.{answered, no-values};
+ghost use Rattle.memory.specs.Banks.{Bank-lists-judged, fault-in, list-answer, list-cause, list-fault};
 ghost use Rattle.memory.specs.Layers.{banks-of};
 ghost use Rattle.std.specs.Vec.{made};
 use crate::bank_list::BankList;
@@ -12,8 +13,8 @@ use crate::banks::fault_of;
 impl BankList {
     // Takes the banks just where the rules admit them for n bytes; a refusal makes no list.
     pub fn new(banks: &[Bank], n: usize) -> Result<BankList, BankListRefusal>
-        ensures answer { λ r. ⌜ list-answered r ≡ list-answer (now (banks .entry)) n ⌝ }
-        ensures cause { λ r. ⌜ list-cause r ≡ list-fault (now (banks .entry)) n ⌝ }
+        ensures answer { λ r. ⌜ answered no-values list-cause r ≡ list-answer (now (banks .entry)) n ⌝ }
+        ensures fault { λ r. ⌜ fault-in r ≡ list-fault (now (banks .entry)) n ⌝ }
         ensures held { λ r. ⌜ made r (λ l. (banks-of l ≡ now (banks .entry)) × (l .room ≡ n)) ⌝ }
     {
         if let Some(fault) = fault_of(banks, n) {

@@ -1,9 +1,10 @@
 // The calls of the layer of marks.
 ghost use mathlib.Core.List.{[]};
 ghost use mathlib.Core.Path.{_≡_};
+ghost use Rattle.memory.specs.Answers.{answered, no-values};
 ghost use Rattle.memory.specs.Content.{write-answer, written};
 ghost use Rattle.memory.specs.Layers.{lines-under, marks-of};
-ghost use Rattle.memory.specs.Marked.{lines-marked, mark-answer, mark-answered, marks-written, with-mark};
+ghost use Rattle.memory.specs.Marked.{lines-marked, mark-answer, mark-cause, marks-written, with-mark};
 ghost use Rattle.std.specs.Vec.{made};
 use crate::Memory;
 use crate::MemoryFault;
@@ -29,10 +30,10 @@ impl<M: Memory> Marks<M> {
 
     // Marks a line that is there. A marked line again adds nothing, and a 33rd is refused.
     pub fn mark(&mut self, line: u64) -> Result<(), MarkRefusal>
-        ensures answer { λ r. ⌜ mark-answered r ≡ mark-answer (marks-of (now (self .entry))) (M·Memory .content (now (self .entry) .below)) line ⌝ }
+        ensures answer { λ r. ⌜ answered no-values mark-cause r ≡ mark-answer (marks-of (now (self .entry))) (M·Memory .content (now (self .entry) .below)) line ⌝ }
         ensures below { λ r. ⌜ now (self .exit) .below ≡ now (self .entry) .below ⌝ }
-        ensures marks { λ r. ⌜ marks-of (now (self .exit)) ≡ with-mark (mark-answered r) (marks-of (now (self .entry))) line ⌝ }
-        ensures after { λ r. ⌜ lines-under (M·Memory .content) (now (self .exit)) ≡ lines-marked (mark-answered r) line (lines-under (M·Memory .content) (now (self .entry))) ⌝ }
+        ensures marks { λ r. ⌜ marks-of (now (self .exit)) ≡ with-mark (answered no-values mark-cause r) (marks-of (now (self .entry))) line ⌝ }
+        ensures after { λ r. ⌜ lines-under (M·Memory .content) (now (self .exit)) ≡ lines-marked (answered no-values mark-cause r) line (lines-under (M·Memory .content) (now (self .entry))) ⌝ }
     {
         if !self.below.present(line) {
             return Err(MarkRefusal::Absent);

@@ -17,4 +17,4 @@ ghost-result c =
 pub returns : need.returns
 returns c =
     let same = take-at (c .copy-from-slice .last .self) _ (length (c .args .banks .now)) (omega arith) ∙ c .copy-from-slice .ensures .after in
-    record { answer = search needs; cause = search needs; held = (same, refl) }
+    record { answer = search needs; fault = search needs; held = (same, refl) }

@@ -17,7 +17,7 @@ pub returns-in-CpuLoad : need.returns-in-CpuLoad
 returns-in-CpuLoad c =
     let s = c .args .self .now in
     record {
-      reply = c .loaded .ensures ∙ ap replied (c .cpu-load .ensures) ∙ sym (ap (λ f. replied (form-answer s (asked f))) (c .in-CpuLoad .is));
+      reply = c .valued .ensures ∙ ap replied (c .cpu-load .ensures) ∙ sym (ap (λ f. replied (form-answer s (asked f))) (c .in-CpuLoad .is));
       after = sym (ap (λ f. form-state s (asked f)) (c .in-CpuLoad .is));
     }
 
@@ -25,6 +25,6 @@ pub returns-in-Mark : need.returns-in-Mark
 returns-in-Mark c =
     let s = c .args .self .now in
     record {
-      reply = c .marked .ensures ∙ ap replied (c .mark .ensures .answer) ∙ sym (ap (λ f. replied (form-answer s (asked f))) (c .in-Mark .is));
+      reply = c .done-in-Mark .ensures ∙ ap replied (c .mark .ensures .answer) ∙ sym (ap (λ f. replied (form-answer s (asked f))) (c .in-Mark .is));
       after = c .mark .ensures .after ∙ ap (λ a. with-lines (lines-marked a (c .in-Mark .line)) (session-state s)) (c .mark .ensures .answer) ∙ sym (ap (λ f. form-state s (asked f)) (c .in-Mark .is));
     }
