@@ -4,7 +4,7 @@ ghost use mathlib.Core.Path.{_≡_};
 ghost use Prim.Native.Nat.{_/_};
 ghost use Rattle.memory.specs.Answers.{answered, no-values};
 ghost use Rattle.bridge.specs.Calls.{load, performed, processor, store};
-ghost use Rattle.bridge.specs.Processor.{access-cause, bad-address};
+ghost use Rattle.bridge.specs.Processor.{access-cause, no-line};
 ghost use Rattle.bridge.specs.State.{state-of};
 ghost use Rattle.std.specs.declared.result.Result.the-variants.{Ok, Err};
 ghost use Rattle.bridge.specs.declared.processor.AccessRefusal.the-variants.{Memory};
@@ -44,7 +44,7 @@ pub impl From<MemoryFault> for AccessRefusal as AccessRefusalFromMemory {
 
 // The line at an address.
 fn line_at(address: u64) -> Result<u64, AccessRefusal>
-    ensures { λ r. ⌜ r ≡ cond (bad-address address) (Err AccessRefusal.Address) (Ok (address / 32)) ⌝ }
+    ensures { λ r. ⌜ r ≡ cond (no-line address) (Err AccessRefusal.Address) (Ok (address / 32)) ⌝ }
 {
     if address % 32 != 0 || address >= 0x1_8000_0000 {
         return Err(AccessRefusal::Address);

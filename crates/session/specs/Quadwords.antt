@@ -34,10 +34,14 @@ quadword-from offset (refusal number values) = refusal number values
 abbrev pub cpu-load : State → ℕ → Answer
 cpu-load s address = cond (eqb (address % 8) 0) (quadword-from (address % 32) (line-load s address)) (refusal 11 [])
 
+-- a call that is turned down changes nothing
+abbrev pub turned-down : State → ℕ → List ℕ → Outcome
+turned-down s number values = record { answer = refusal number values; buffer = []; state = s }
+
 abbrev pub store-back : State → ℕ → ℕ → Answer → Outcome
 store-back s address value (success line) = performed s (processor (store (line-start address) (with-quadword (address % 32) value line)))
-store-back s address value (refusal number values) = record { answer = refusal number values; state = s }
+store-back s address value (refusal number values) = turned-down s number values
 
 -- cpu-store: the line is loaded, the eight bytes put in, and the line stored, refused as these are
 abbrev pub cpu-store : State → ℕ → ℕ → Outcome
-cpu-store s address value = cond (eqb (address % 8) 0) (store-back s address value (line-load s address)) (record { answer = refusal 11 []; state = s })
+cpu-store s address value = cond (eqb (address % 8) 0) (store-back s address value (line-load s address)) (turned-down s 11 [])

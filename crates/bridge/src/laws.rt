@@ -1,0 +1,19 @@
+// Laws of the definitions, each the contract of a function that does nothing.
+ghost use Rattle.bridge.specs.AddressBits.{Address-bits};
+ghost use Rattle.bridge.specs.Cuts.{Cut-at-lines};
+ghost use Rattle.bridge.specs.WorkedAddresses.{Worked-addresses};
+
+// What the definitions make of some addresses.
+pub fn worked_addresses()
+    ensures { λ _. ⌜ Worked-addresses ⌝ }
+{}
+
+// Which addresses a window holds, and what each bit of a translated and of a decoded address is.
+pub fn addresses_by_bits()
+    ensures { λ _. ⌜ Address-bits ⌝ }
+{}
+
+// The pieces of a burst: in order, each within one line, together every longword once.
+pub fn bursts_are_cut_at_lines()
+    ensures { λ _. ⌜ Cut-at-lines ⌝ }
+{}
