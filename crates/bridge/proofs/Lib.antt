@@ -6,3 +6,5 @@ pub mod Reach
 pub mod PieceSteps
 pub mod TwinBursts
 pub mod TwinCalls
+pub mod LogFacts
+pub mod RowFacts

@@ -16,3 +16,5 @@ pub mod Isolation
 pub mod WorkedAddresses
 pub mod AddressBits
 pub mod Cuts
+pub mod LogRuns
+pub mod RowRuns

@@ -5,6 +5,7 @@ pub mod look_aside;
 pub mod mark;
 pub mod processor;
 pub mod registers;
+pub mod run_laws;
 
 ghost use mathlib.Core.Path.{_≡_};
 ghost use Rattle.memory.specs.Content.{Lawful, Lines};
