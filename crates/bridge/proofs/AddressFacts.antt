@@ -3,7 +3,6 @@ use mathlib.Core.Path.{_≡_, refl, sym, ap, ap₂, subst, _∙_}
 use mathlib.Core.Bool.{Bool, true, false, not, cond, _&&_, _||_}
 use mathlib.Core.Logic.{_⊎_, inl, inr, ⊎-elim}
 use Prim.Native.Nat.{ℕ, zero, suc, _+_, _-_, _*_, _/_, _%_, _^_, _<_, _≤_}
-use native.Mathlib.Nat.{zero-div}
 use native.Mathlib.Omega.{arith}
 use lib.Bits.{and-le-l, and-le-r, bitAnd, bitOr, bitXor, or-lt}
 use lib.Dec.{eqb, leb, ltb}
@@ -18,10 +17,7 @@ use Rattle.bridge.specs.AddressBits.{Address-bits, Agrees, Configuration-0-bit
 use Rattle.bridge.specs.Bits.{bits}
 use Rattle.bridge.specs.Processor.{configuration-0-address, configuration-1-address, device-bit, first-lane, lane-count, sparse-io-address, sparse-lanes, sparse-memory-address}
 use Rattle.bridge.specs.Windows.{enabled, entry-address, holds, mixed, plain-address, target-base}
-use Rattle.bridge.proofs.BitFacts.{bit-and, bit-beyond, bit-complement, bit-field, bit-high, bit-low, bit-or, bit-xor, bit-zero, bit-half, differs, field-below}
-
-bit-of-zero : (i : ℕ) → bit 0 i ≡ false
-bit-of-zero i = ap (λ m. eqb (m % 2) 1) (zero-div (2 ^ i))
+use Rattle.bridge.proofs.BitFacts.{bit-and, bit-beyond, bit-complement, bit-field, bit-high, bit-low, bit-of-zero, bit-or, bit-xor, bit-zero, bit-half, differs, field-below}
 
 -- a field at its place i of the number that it was taken from
 field-at : (high low n i j : ℕ) → i < high + 1 - low → low + i ≡ j → bit (bits high low n) i ≡ bit n j

@@ -3,7 +3,7 @@ use mathlib.Core.Path.{_≡_, refl, sym, ap, ap₂, subst, _∙_}
 use mathlib.Core.Bool.{Bool, true, false, not, cond, _&&_, _||_}
 use mathlib.Core.Logic.{_⊎_, inl, inr, ⊎-elim}
 use Prim.Native.Nat.{ℕ, zero, suc, _+_, _-_, _*_, _/_, _%_, _^_, _<_, _≤_}
-use native.Mathlib.Nat.{div-eq-of-lt, div-one}
+use native.Mathlib.Nat.{div-eq-of-lt, div-one, zero-div}
 use native.Mathlib.Omega.{arith}
 use lib.Bits.{and-mod, and-shr, bitAnd, bitOr, bitXor, block-half, block-odd, or-mod, or-shr, xor-mod, xor-shr}
 use lib.Dec.{eqb}
@@ -36,6 +36,9 @@ bit-high i k hi lo l h =
 -- a number below 2 ^ k has no bit from k on
 pub bit-beyond : (i k n : ℕ) → n < 2 ^ k → k ≤ i → bit n i ≡ false
 bit-beyond i k n l h = ap (λ m. eqb (m % 2) 1) (div-eq-of-lt (let p = pow-mono h in omega arith))
+
+pub bit-of-zero : (i : ℕ) → bit 0 i ≡ false
+bit-of-zero i = ap (λ m. eqb (m % 2) 1) (zero-div (2 ^ i))
 
 -- the bits of a field
 pub bit-field : (high low n i : ℕ) → i < high + 1 - low → bit (bits high low n) i ≡ bit n (low + i)
@@ -94,3 +97,17 @@ bit-complement (suc w) m (suc i) l h =
     let p = pow-suc-two w in
     let e : (2 ^ suc w - 1 - m) / 2 ≡ 2 ^ w - 1 - m / 2 = omega arith in
     bit-half (2 ^ suc w - 1 - m) i ∙ ap (λ n. bit n i) e ∙ bit-complement w (m / 2) i (omega arith) (omega arith) ∙ ap not (sym (bit-half m i))
+
+lacks-higher : (w n : ℕ) → (i : ℕ) × (i < w) × (bit (n / 2) i ≡ false) → (i : ℕ) × (i < suc w) × (bit n i ≡ false)
+lacks-higher w n (i, l, e) = (suc i, omega arith, bit-half n i ∙ e)
+
+-- a number of w bits that are not all set lacks one
+pub lacks-bit : (w n : ℕ) → n < 2 ^ w → (n ≡ 2 ^ w - 1 → ⊥) → (i : ℕ) × (i < w) × (bit n i ≡ false)
+lacks-bit zero n l ne = absurd (ne (omega arith))
+lacks-bit (suc w) n l ne =
+    let p = pow-suc-two w in
+    let q = pow-pos w in
+    ⊎-elim
+    (λ (e : n % 2 ≡ 0). (0, omega arith, bit-zero n ∙ ap (λ d. eqb d 1) e))
+    (λ (e : n % 2 ≡ 1). lacks-higher w n (lacks-bit w (n / 2) (omega arith) (λ f. ne (omega arith))))
+    (digit (λ x. (x ≡ 0) ⊎ (x ≡ 1)) (inl refl) (inr refl) (n % 2) (mod-below n 2 (omega arith)))

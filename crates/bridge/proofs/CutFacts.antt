@@ -36,20 +36,20 @@ addresses-split pci n m =
     let e : n + 0 ≡ 0 + n = omega arith in
     sym (counted-on (λ k. pci + 4 * k) n m 0 ∙ ap (λ l. addresses pci n ++ l) (ap (λ x. map (λ k. pci + 4 * k) (counting x m)) (sym e) ∙ shifted pci m n 0))
 
-take-split : (n m : ℕ) (l : List ℕ) → take n l ++ take m (drop n l) ≡ take (n + m) l
+pub take-split : (n m : ℕ) (l : List ℕ) → take n l ++ take m (drop n l) ≡ take (n + m) l
 take-split n m l = ap₂ _++_ (sym (take-take n (n + m) l (omega arith))) (sym (drop-take n m l)) ∙ take-append-drop n (take (n + m) l)
 
 -- what a cut comes to, turn by turn: nothing of no longwords, else the first piece and the cut of the rest
 module _ (P : List Piece → Type 0) (turns pci left : ℕ) (job : Job) where
-  cut-none : left ≡ 0 → P [] → P (cut (suc turns) pci left job)
+  pub cut-none : left ≡ 0 → P [] → P (cut (suc turns) pci left job)
   cut-none e h = subst P (sym (cond-true (eqb left 0) _ _ (eq-eqb left 0 e))) h
 
-  cut-more : (left ≡ 0 → ⊥)
+  pub cut-more : (left ≡ 0 → ⊥)
       → P (record { pci = pci; count = in-line pci left; job = job-front (in-line pci left) job } ∷ cut turns (pci + 4 * in-line pci left) (left - in-line pci left) (job-rest (in-line pci left) job))
       → P (cut (suc turns) pci left job)
   cut-more e h = subst P (sym (cond-false (eqb left 0) _ _ (ne-eqb left 0 e))) h
 
-in-line-some : (pci left : ℕ) → (left ≡ 0 → ⊥) → (0 < in-line pci left) × (in-line pci left ≤ left)
+pub in-line-some : (pci left : ℕ) → (left ≡ 0 → ⊥) → (0 < in-line pci left) × (in-line pci left ≤ left)
 in-line-some pci left h = (omega arith, omega arith)
 
 cut-addresses : (turns pci left : ℕ) (job : Job) → left ≤ turns → joined piece-addresses (cut turns pci left job) ≡ addresses pci left

@@ -2,6 +2,11 @@ pub mod EqualRows
 pub mod BitFacts
 pub mod AddressFacts
 pub mod CutFacts
+pub mod SameLine
+pub mod TranslationFacts
+pub mod ReadFacts
+pub mod MaskFacts
+pub mod WriteFacts
 pub mod Reach
 pub mod PieceSteps
 pub mod TwinBursts

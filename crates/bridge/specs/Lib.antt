@@ -18,3 +18,7 @@ pub mod AddressBits
 pub mod Cuts
 pub mod LogRuns
 pub mod RowRuns
+pub mod Reads
+pub mod Writes
+pub mod Translated
+pub mod Refusals

@@ -1,7 +1,9 @@
 // Laws of the definitions, each the contract of a function that does nothing.
 ghost use Rattle.bridge.specs.AddressBits.{Address-bits};
 ghost use Rattle.bridge.specs.Cuts.{Cut-at-lines};
+ghost use Rattle.bridge.specs.Reads.{Reads};
 ghost use Rattle.bridge.specs.WorkedAddresses.{Worked-addresses};
+ghost use Rattle.bridge.specs.Writes.{Writes};
 
 // What the definitions make of some addresses.
 pub fn worked_addresses()
@@ -16,4 +18,14 @@ pub fn addresses_by_bits()
 // The pieces of a burst: in order, each within one line, together every longword once.
 pub fn bursts_are_cut_at_lines()
     ensures { λ _. ⌜ Cut-at-lines ⌝ }
+{}
+
+// A card read: what it moves, what it leaves, and where it ends.
+pub fn reads_move_longwords()
+    ensures { λ _. ⌜ Reads ⌝ }
+{}
+
+// A card write: what it stores, what it dismisses, what it counts, and where it ends.
+pub fn writes_store_lines()
+    ensures { λ _. ⌜ Writes ⌝ }
 {}
