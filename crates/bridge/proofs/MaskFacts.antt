@@ -29,10 +29,10 @@ enables-bit (e ∷ enables) j h =
     let blocks : e + 16 * m ≡ m * 2 ^ 4 + e = omega arith in
     ⊎-elim
     (λ l. let q : j / 4 ≡ 0 = omega arith in let r : j ≡ j % 4 = omega arith in
-        ap (λ n. bit n j) blocks ∙ bit-low j 4 m e l ∙ ap (bit e) r ∙ ap (λ k. bit (getD (e ∷ enables) k 0) (j % 4)) (sym q))
+    ap (λ n. bit n j) blocks ∙ bit-low j 4 m e l ∙ ap (bit e) r ∙ ap (λ k. bit (getD (e ∷ enables) k 0) (j % 4)) (sym q))
     (λ g. let q : j / 4 ≡ suc ((j - 4) / 4) = omega arith in let r : (j - 4) % 4 ≡ j % 4 = omega arith in
-        ap (λ n. bit n j) blocks ∙ bit-high j 4 m e (omega arith) g ∙ enables-bit enables (j - 4) (parts .1)
-        ∙ ap (λ k. bit (getD enables ((j - 4) / 4) 0) k) r ∙ ap (λ k. bit (getD (e ∷ enables) k 0) (j % 4)) (sym q))
+    ap (λ n. bit n j) blocks ∙ bit-high j 4 m e (omega arith) g ∙ enables-bit enables (j - 4) (parts .1)
+    ∙ ap (λ k. bit (getD enables ((j - 4) / 4) 0) k) r ∙ ap (λ k. bit (getD (e ∷ enables) k 0) (j % 4)) (sym q))
     (cases-lt j 4)
 
 mask-bit : (offset : ℕ) (enables : List ℕ) (i : ℕ) → wide-enable enables ≡ false → bit (line-mask offset enables) i ≡ enabled-at offset enables i
@@ -42,7 +42,7 @@ mask-bit offset enables i h =
     ⊎-elim
     (λ l. ap (λ n. bit n i) at ∙ bit-low i offset v 0 l ∙ bit-of-zero i ∙ sym (and-left _ _ (lt-leb offset i l)))
     (λ g. ap (λ n. bit n i) at ∙ bit-high i offset v 0 (pow-pos offset) g ∙ enables-bit enables (i - offset) h
-        ∙ ap (λ b. b && bit (getD enables ((i - offset) / 4) 0) ((i - offset) % 4)) (sym (le-leb offset i g)))
+    ∙ ap (λ b. b && bit (getD enables ((i - offset) / 4) 0) ((i - offset) % 4)) (sym (le-leb offset i g)))
     (cases-lt i offset)
 
 -- it has no bit past those of the longwords
@@ -105,5 +105,5 @@ module _ (offset : ℕ) (words enables : List ℕ) (narrow : wide-enable enables
   line-after l (good old) n =
       good-line (length-merged _ _ _)
       (λ i h. merged-at (line-mask offset enables) old (line-bytes offset words) i h
-          ∙ ap (λ b. cond b (getD (line-bytes offset words) i 0) (getD old i 0)) (mask-bit offset enables i narrow)
-          ∙ good-at old i h (enabled-at offset enables i) refl)
+      ∙ ap (λ b. cond b (getD (line-bytes offset words) i 0) (getD old i 0)) (mask-bit offset enables i narrow)
+      ∙ good-at old i h (enabled-at offset enables i) refl)

@@ -24,7 +24,7 @@ use Rattle.bridge.specs.Calls.{burst-outcome}
 use Rattle.bridge.specs.Longwords.{longword-at, longwords}
 use Rattle.bridge.specs.Pieces.{Edit, PieceOutcome, PieceReply, after-piece, edited, no-edit, no-window, outcome-at-content, outcome-at-place, piece-outcome, read-ended, words-dismissed, words-moved, words-stored}
 use Rattle.bridge.specs.Reads.{Fault-at, Read-at, Read-end, Read-law, Reads, at-absent, at-fault, at-no-window, at-spoiled, at-table, complete, serving}
-use Rattle.bridge.specs.Runs.{Run, all-moved, ends, read-answer, run, run-piece, run-unless}
+use Rattle.bridge.specs.Runs.{Run, all-moved, ends, answer-of-read, run, run-piece, run-unless}
 use Rattle.bridge.specs.State.{State}
 use Rattle.bridge.specs.Translation.{Place, place-of, table-fault, target, unclaimed}
 use Rattle.bridge.specs.Windows.{claim}
@@ -56,7 +56,7 @@ read-reply s pci n = reply-at-place s pci n _ _ refl
 record Reading (s : State) (pci left : ℕ) (ps : List Piece) (rs : List PieceReply) : Type 0 where
   most : length (all-moved rs) ≤ left
   words : (k : ℕ) → k < length (all-moved rs) → Read-at (serving s ps k) (pci + 4 * k) (getD (all-moved rs) k 0)
-  end : (m : ℕ) → Read-end (serving s ps (length (all-moved rs))) (pci + 4 * length (all-moved rs)) m (left - length (all-moved rs)) (read-answer m rs)
+  end : (m : ℕ) → Read-end (serving s ps (length (all-moved rs))) (pci + 4 * length (all-moved rs)) m (left - length (all-moved rs)) (answer-of-read m rs)
 
 -- the same end, said of other numbers
 end-at : {s t : State} {p q m l r : ℕ} {a : Answer} → s ≡ t → p ≡ q → l ≡ r → Read-end s p m l a → Read-end t q m r a
@@ -109,7 +109,7 @@ module _ (s : State) (pci left : ℕ) (some : left ≡ 0 → ⊥) (ps : List Pie
         words = λ k h. ⊎-elim
             (λ l. at-same (sym (serving-own s q ps k l)) refl (sym (getD-append-left words rest 0 k (omega arith))) (own k l))
             (λ g. let e : n + (k - n) ≡ k = omega arith in
-                at-same (sym (serving-later s q ps k (k - n) e)) (omega arith) (sym (getD-append-right words rest n k 0 long g)) (later .words (k - n) (omega arith)))
+            at-same (sym (serving-later s q ps k (k - n) e)) (omega arith) (sym (getD-append-right words rest n k 0 long g)) (later .words (k - n) (omega arith)))
             (cases-lt k n);
         end = λ m. end-at (sym (serving-later s q ps (length (words ++ rest)) (length rest) (sym len))) (omega arith) (omega arith) (later .end m);
       }
@@ -148,8 +148,8 @@ readings (suc turns) pci left h a s =
     ⊎-elim
     (λ e. cut-none (λ ps. Reading s pci left ps (run s ps .replies)) turns pci left reading e (record { most = omega arith; words = λ k l. absurd (omega arith); end = λ m. complete (omega arith) }))
     (λ ne. let fits = in-line-some pci left ne in
-        cut-more (λ ps. Reading s pci left ps (run s ps .replies)) turns pci left reading ne
-        (reading-step s pci left a ne _ _ _ _ _ (read-reply s pci (in-line pci left)) (readings turns (pci + 4 * in-line pci left) (left - in-line pci left) (omega arith) (omega arith) _)))
+    cut-more (λ ps. Reading s pci left ps (run s ps .replies)) turns pci left reading ne
+    (reading-step s pci left a ne _ _ _ _ _ (read-reply s pci (in-line pci left)) (readings turns (pci + 4 * in-line pci left) (left - in-line pci left) (omega arith) (omega arith) _)))
     (cases-eq left 0)
 
 -- a read changes no line
@@ -176,9 +176,9 @@ read-lines zero pci left s = refl
 read-lines (suc turns) pci left s =
     ⊎-elim (λ e. cut-none (λ ps. run s ps .state .lines ≡ s .lines) turns pci left reading e refl)
     (λ ne. cut-more (λ ps. run s ps .state .lines ≡ s .lines) turns pci left reading ne
-        (let o = piece-outcome (s .control) (s .lines) (record { pci = pci; count = in-line pci left; job = reading }) in
-        let here : after-piece s o .lines ≡ s .lines = ap (λ e. edited e (s .lines)) (edit-at-place s pci (in-line pci left) _ _ (s .lines) (place-of s pci)) in
-        run-piece-lines s o _ here (read-lines turns _ _ (after-piece s o) ∙ here)))
+    (let o = piece-outcome (s .control) (s .lines) (record { pci = pci; count = in-line pci left; job = reading }) in
+    let here : after-piece s o .lines ≡ s .lines = ap (λ e. edited e (s .lines)) (edit-at-place s pci (in-line pci left) _ _ (s .lines) (place-of s pci)) in
+    run-piece-lines s o _ here (read-lines turns _ _ (after-piece s o) ∙ here)))
     (cases-eq left 0)
 
 pub checks-passed : (s : State) (b : Burst) → failed-check (s .control .registers) b ≡ None → (out-of-bounds b ≡ false) × (misaligned b ≡ false) × (is-unclaimed (claim (s .control .registers) (burst-start b)) ≡ false)

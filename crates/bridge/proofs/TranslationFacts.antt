@@ -71,8 +71,8 @@ translates s pci =
     ⊎-elim
     (λ h. subst P (sym (cond-true (holds (r .first) pci) _ _ h)) (by-window s pci 1 (window-1 h) _ refl))
     (λ n. subst P (sym (cond-false (holds (r .first) pci) _ _ n))
-        (⊎-elim
-        (λ h. subst P (sym (cond-true (holds (r .second) pci) _ _ h)) (by-window s pci 2 (window-2 n h) _ refl))
-        (λ m. subst P (sym (cond-false (holds (r .second) pci) _ _ m)) (by-none n m))
-        (cases-bool (holds (r .second) pci))))
+    (⊎-elim
+    (λ h. subst P (sym (cond-true (holds (r .second) pci) _ _ h)) (by-window s pci 2 (window-2 n h) _ refl))
+    (λ m. subst P (sym (cond-false (holds (r .second) pci) _ _ m)) (by-none n m))
+    (cases-bool (holds (r .second) pci))))
     (cases-bool (holds (r .first) pci))

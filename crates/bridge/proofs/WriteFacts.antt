@@ -23,7 +23,7 @@ use Rattle.bridge.specs.Calls.{burst-outcome}
 use Rattle.bridge.specs.Longwords.{line-bytes, line-mask}
 use Rattle.bridge.specs.Pieces.{PieceOutcome, PieceReply, after-piece, no-window, outcome-at-content, outcome-at-place, outcome-faulted, outcome-written, piece-outcome, words-dismissed, words-stored}
 use Rattle.bridge.specs.Reads.{Fault-at, at-absent, at-table}
-use Rattle.bridge.specs.Runs.{Counts, Run, count-values, counted, ends, met-no-window, run, run-piece, run-unless, write-answer}
+use Rattle.bridge.specs.Runs.{Counts, Run, count-values, counted, ends, met-no-window, run, run-piece, run-unless, answer-of-write}
 use Rattle.bridge.specs.State.{State}
 use Rattle.bridge.specs.Translation.{Place, located, place-of, table-fault, target, unclaimed}
 use Rattle.bridge.specs.Writes.{Line-after, Line-served, Stored, Write-end, Write-law, Writes, at-no-window, before-piece, complete, counts, nth-piece, was-dismissed, was-stored}
@@ -151,17 +151,17 @@ writings (suc turns) pci left words enables h a narrow s =
     ⊎-elim
     (λ e. cut-none (λ ps. Writing s ps (run s ps)) turns pci left (writing words enables) e (nothing-left s))
     (λ ne. let fits = in-line-some pci left ne in
-        let n = in-line pci left in
-        let e : n + (left - n) ≡ left = omega arith in
-        let parts = wide-parts (take n enables) (take (left - n) (drop n enables)) (ap wide-enable (take-split n (left - n) enables ∙ ap (λ k. take k enables) e) ∙ narrow) in
-        cut-more (λ ps. Writing s ps (run s ps)) turns pci left (writing words enables) ne
-        (writing-step s _ _ _ (write-step s pci left a (take n words) (take n enables) (parts .0) (simp length-take (omega arith)))
-        (writings turns (pci + 4 * n) (left - n) (drop n words) (drop n enables) (omega arith) (omega arith) (parts .1) _)))
+    let n = in-line pci left in
+    let e : n + (left - n) ≡ left = omega arith in
+    let parts = wide-parts (take n enables) (take (left - n) (drop n enables)) (ap wide-enable (take-split n (left - n) enables ∙ ap (λ k. take k enables) e) ∙ narrow) in
+    cut-more (λ ps. Writing s ps (run s ps)) turns pci left (writing words enables) ne
+    (writing-step s _ _ _ (write-step s pci left a (take n words) (take n enables) (parts .0) (simp length-take (omega arith)))
+    (writings turns (pci + 4 * n) (left - n) (drop n words) (drop n enables) (omega arith) (omega arith) (parts .1) _)))
     (cases-eq left 0)
 
-answer-end : {s : State} {ps : List Piece} {l : List Bool} (c : Counts) (b : Bool) → c ≡ summed ps l → Ending s ps l b → Write-end s ps l (write-answer c b)
-answer-end {s} {ps} {l} c b e (whole h) = subst (λ (d : Counts). Write-end s ps l (write-answer d false)) (sym e) (complete h)
-answer-end {s} {ps} {l} c b e (short h u) = subst (λ (d : Counts). Write-end s ps l (write-answer d true)) (sym e) (at-no-window h u)
+answer-end : {s : State} {ps : List Piece} {l : List Bool} (c : Counts) (b : Bool) → c ≡ summed ps l → Ending s ps l b → Write-end s ps l (answer-of-write c b)
+answer-end {s} {ps} {l} c b e (whole h) = subst (λ (d : Counts). Write-end s ps l (answer-of-write d false)) (sym e) (complete h)
+answer-end {s} {ps} {l} c b e (short h u) = subst (λ (d : Counts). Write-end s ps l (answer-of-write d true)) (sym e) (at-no-window h u)
 
 pub writes : Writes
 writes s pci count words enables ok =

@@ -11,7 +11,7 @@ use Rattle.bridge.specs.Bits.{bits}
 use Rattle.bridge.specs.Processor.{configuration-0-address, configuration-1-address, first-lane, lane-count, sparse-io-address, sparse-lanes, sparse-memory-address}
 use Rattle.bridge.specs.Windows.{enabled, entry-address, holds, plain-address, target-base}
 
--- bits high:low of a number are those of a PCI address, or of another number, some places up
+-- each bit of a number from low to high is a bit of another number, some places up
 abbrev pub Bits-from : ℕ → ℕ → ℕ → ℕ → ℕ → Type 0
 Bits-from number low high other up = (i : ℕ) → low ≤ i → i ≤ high → bit number i ≡ bit other (i + up)
 
@@ -33,7 +33,8 @@ Holds-by-bits = (w : Window) (pci : ℕ) → Decides (holds w pci) (Agrees w pci
 abbrev pub Target-base-bits : Type 0
 Target-base-bits = (w : Window) (j : ℕ) → bit (target-base w) (j + 1) ≡ bit (w .translated) j
 
--- a plain window keeps bits 19:0; each bit 31:20 comes from the PCI address if its mask bit is 1, else from T; so does 32
+-- a plain window keeps bits 19:0; each bit 31:20 comes from the PCI address if its mask bit is 1, else from T; bit 32 comes
+-- from T
 pub record Plain-bits (w : Window) (pci : ℕ) : Type 0 where
   pub kept : Bits-from (plain-address w pci) 0 19 pci 0
   pub mixed : (i : ℕ) → 20 ≤ i → i ≤ 31 → bit (plain-address w pci) i ≡ cond (bit (w .mask) i) (bit pci i) (bit (target-base w) i)
@@ -66,7 +67,8 @@ pub record Sparse-io-bits (cpu : ℕ) : Type 0 where
   pub low : Bits-from (sparse-io-address cpu) 0 23 cpu 5
   pub beyond : Zero-from (sparse-io-address cpu) 24
 
--- configuration of type 0: PCI 10:2 is CPU 15:7, 1:0 is 0, and of 31:11 just bit 11 + d is set, d being CPU 20:16
+-- configuration of type 0: PCI 10:2 is CPU 15:7, 1:0 is 0, and of 31:11 just bit 11 + d is set, d being CPU 20:16; none
+-- where d is over 20
 pub record Configuration-0-bits (cpu : ℕ) : Type 0 where
   pub zeros : Zero-bits (configuration-0-address cpu) 0 1
   pub low : Bits-from (configuration-0-address cpu) 2 10 cpu 5

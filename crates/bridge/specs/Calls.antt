@@ -37,7 +37,8 @@ pub record Outcome : Type 0 where
   pub answer : Answer
   pub buffer : List ℕ
 
--- a register write changes the bridge's own record and no memory; one that names no register changes nothing
+-- a register write changes the bridge's own record and no memory; one that names no register, or one that can only be
+-- read, changes nothing
 abbrev pub control-written : Control → Option Register → ℕ → Control
 control-written k None v = k
 control-written k (Some r) v = record { registers = registers-written (k .registers) r v; look-aside = rows-written (k .look-aside) r; log = k .log }
@@ -70,10 +71,10 @@ request-answer s (decode cpu) = decode-answer (s .control .registers) cpu
 request-answer s log-read = success (log-values (s .control .log))
 request-answer s log-clear = success []
 
--- a burst that fails a check changes nothing, and returns the number of the check alone
 abbrev pub burst-served : Burst → Run → Outcome
 burst-served b r = record { state = r .state; answer = burst-answer b (r .replies); buffer = burst-buffer b (r .replies) }
 
+-- a burst that fails a check changes nothing, and returns the number of the check alone
 abbrev pub burst-outcome : State → Burst → Option ℕ → Outcome
 burst-outcome s b (Some number) = record { state = s; answer = refusal number []; buffer = lent-buffer b }
 burst-outcome s b None = burst-served b (run s (pieces b))

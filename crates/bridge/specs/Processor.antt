@@ -1,4 +1,5 @@
 -- The processor's calls: load, store, and the decoding of addresses that lead to the PCI bus.
+use mathlib.Core.Path.{_≡_}
 use mathlib.Core.Bool.{Bool, true, false, cond, not, _&&_, _||_}
 use mathlib.Core.List.{List, [], _∷_}
 use Prim.Native.Nat.{ℕ, _+_, _-_, _*_, _/_, _^_}
@@ -20,6 +21,12 @@ abbrev pub access-cause : AccessRefusal → Cause
 access-cause R.Address = bare 11
 access-cause (R.Memory (Absent line)) = bare 14
 access-cause (R.Memory (Spoiled line)) = bare 15
+
+-- a fault of the memory that is held in a refusal is that of the line
+abbrev pub Of-line : ℕ → AccessRefusal → Type 0
+Of-line line R.Address = Unit {0}
+Of-line line (R.Memory (Absent k)) = k ≡ line
+Of-line line (R.Memory (Spoiled k)) = k ≡ line
 
 abbrev pub load-content : Content → Answer
 load-content absent = refusal 14 []

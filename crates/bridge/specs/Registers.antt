@@ -10,7 +10,7 @@ use Rattle.bridge.specs.declared.look_aside.LookAsideRow.{LookAsideRow}
 use Rattle.bridge.specs.declared.look_aside.LookAside.{LookAside}
 use Rattle.bridge.specs.declared.registers.Window.{Window}
 use Rattle.bridge.specs.declared.registers.Registers.{Registers}
-use Rattle.bridge.specs.Bits.{bits-kept, flag, in-range}
+use Rattle.bridge.specs.Bits.{bits, bits-kept, flag, in-range}
 use Rattle.bridge.specs.LookAside.{row, zero-rows}
 
 abbrev pub zero-window : Window
@@ -57,10 +57,10 @@ register-named n =
 
 -- a tag has the PCI page in bits 31:13 and the valid bit 12, a data register the page number in bits 20:1
 abbrev pub tag-value : LookAsideRow → ℕ
-tag-value r = r .«pci_page» * 2 ^ 13 + flag (r .valid) * 2 ^ 12
+tag-value r = bits 18 0 (r .«pci_page») * 2 ^ 13 + flag (r .valid) * 2 ^ 12
 
 abbrev pub data-value : LookAsideRow → ℕ
-data-value r = r .page * 2
+data-value r = bits 19 0 (r .page) * 2
 
 abbrev pub register-value : Registers → LookAside → Register → ℕ
 register-value r t (translated-base number) = window r number .translated

@@ -47,13 +47,13 @@ abbrev pub buffer-filled : List ℕ → List ℕ → List ℕ
 buffer-filled words buffer = words ++ drop (length words) buffer
 
 -- a read that no piece ended succeeds; 4 returns how many longwords were moved, a fault also its PCI address and line
-abbrev pub read-answer : ℕ → List PieceReply → Answer
-read-answer moved [] = success []
-read-answer moved (words-moved words ∷ replies) = read-answer moved replies
-read-answer moved (read-ended number pci line ∷ replies) = refusal number (moved ∷ pci ∷ line ∷ [])
-read-answer moved (words-stored count ∷ replies) = read-answer moved replies
-read-answer moved (words-dismissed count ∷ replies) = read-answer moved replies
-read-answer moved (no-window ∷ replies) = refusal 4 (moved ∷ [])
+abbrev pub answer-of-read : ℕ → List PieceReply → Answer
+answer-of-read moved [] = success []
+answer-of-read moved (words-moved words ∷ replies) = answer-of-read moved replies
+answer-of-read moved (read-ended number pci line ∷ replies) = refusal number (moved ∷ pci ∷ line ∷ [])
+answer-of-read moved (words-stored count ∷ replies) = answer-of-read moved replies
+answer-of-read moved (words-dismissed count ∷ replies) = answer-of-read moved replies
+answer-of-read moved (no-window ∷ replies) = refusal 4 (moved ∷ [])
 
 -- Writes. Longwords taken, lines stored, lines dismissed:
 pub record Counts : Type 0 where
@@ -81,14 +81,14 @@ met-no-window (no-window ∷ replies) = true
 abbrev pub count-values : Counts → List ℕ
 count-values c = c .taken ∷ c .stored ∷ c .dismissed ∷ []
 
-abbrev pub write-answer : Counts → Bool → Answer
-write-answer c false = success (count-values c)
-write-answer c true = refusal 4 (count-values c)
+abbrev pub answer-of-write : Counts → Bool → Answer
+answer-of-write c false = success (count-values c)
+answer-of-write c true = refusal 4 (count-values c)
 
 -- Both.
 abbrev pub burst-answer : Burst → List PieceReply → Answer
-burst-answer (card-read pci count buffer) replies = read-answer (length (all-moved replies)) replies
-burst-answer (card-write pci count words enables) replies = write-answer (counted replies) (met-no-window replies)
+burst-answer (card-read pci count buffer) replies = answer-of-read (length (all-moved replies)) replies
+burst-answer (card-write pci count words enables) replies = answer-of-write (counted replies) (met-no-window replies)
 
 -- the buffer that a read was lent, afterwards; a write is lent none to fill
 abbrev pub burst-buffer : Burst → List PieceReply → List ℕ

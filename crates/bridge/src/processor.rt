@@ -4,8 +4,9 @@ ghost use mathlib.Core.Path.{_≡_};
 ghost use Prim.Native.Nat.{_/_};
 ghost use Rattle.memory.specs.Answers.{answered, no-values};
 ghost use Rattle.bridge.specs.Calls.{load, performed, processor, store};
-ghost use Rattle.bridge.specs.Processor.{access-cause, no-line};
+ghost use Rattle.bridge.specs.Processor.{Of-line, access-cause, no-line};
 ghost use Rattle.bridge.specs.State.{state-of};
+ghost use Rattle.std.specs.Vec.{refused};
 ghost use Rattle.std.specs.declared.result.Result.the-variants.{Ok, Err};
 ghost use Rattle.bridge.specs.declared.processor.AccessRefusal.the-variants.{Memory};
 use crate::Bridge;
@@ -55,7 +56,8 @@ fn line_at(address: u64) -> Result<u64, AccessRefusal>
 impl<M: Memory> Bridge<M> {
     // The 32 bytes of the line at an address.
     pub fn load(&self, address: u64) -> Result<[u8; 32], AccessRefusal>
-        ensures { λ r. ⌜ answered (λ bytes. bytes) access-cause r ≡ performed (state-of (M·Memory .content) (now (self .entry))) (processor (load address)) .answer ⌝ }
+        ensures answer { λ r. ⌜ answered (λ bytes. bytes) access-cause r ≡ performed (state-of (M·Memory .content) (now (self .entry))) (processor (load address)) .answer ⌝ }
+        ensures line { λ r. ⌜ refused r (Of-line (address / 32)) ⌝ }
     {
         let line = line_at(address)?;
         let mut bytes = [0; 32];
@@ -66,6 +68,7 @@ impl<M: Memory> Bridge<M> {
     // Stores 32 bytes into the line at an address.
     pub fn store(&mut self, address: u64, bytes: &[u8; 32]) -> Result<(), AccessRefusal>
         ensures answer { λ r. ⌜ answered no-values access-cause r ≡ performed (state-of (M·Memory .content) (now (self .entry))) (processor (store address (now (bytes .entry)))) .answer ⌝ }
+        ensures line { λ r. ⌜ refused r (Of-line (address / 32)) ⌝ }
         ensures after { λ r. ⌜ state-of (M·Memory .content) (now (self .exit)) ≡ performed (state-of (M·Memory .content) (now (self .entry))) (processor (store address (now (bytes .entry)))) .state ⌝ }
     {
         let line = line_at(address)?;

@@ -18,7 +18,7 @@ use Rattle.bridge.specs.Pieces.{PieceOutcome, after-piece, outcome-at-content,
 use Rattle.bridge.specs.Runs.{burst-answer, run, run-piece}
 use Rattle.bridge.specs.State.{State, new-state}
 use Rattle.bridge.specs.Translation.{Entry, entry-named, entry-of, located-by-entry}
-use Rattle.bridge.specs.WorkedAddresses.{Quadword, mapped-window}
+use Rattle.bridge.specs.WorkedAddresses.{Quadword, set-mapped-window}
 use Rattle.bridge.proofs.laws.worked_addresses.Needs as need
 
 entry-at : (lines : Lines) (address n : ℕ) → Quadword lines address n → entry-of (lines (address / 32)) address ≡ entry-named n
@@ -35,7 +35,7 @@ returns c = record {
   entry-7 = λ lines q. ap (λ (e : Entry). located-by-entry zero-rows 0x0080_2004 0x1_0008 e .place) (entry-at lines 0x1_0008 7 q);
   entry-17FFFF = λ lines q. ap (λ (e : Entry). located-by-entry zero-rows 0x0080_2000 0x1_0008 e .place) (entry-at lines 0x1_0008 0x17FFFF q);
   entry-1FFFFF = λ lines buffer bound q h.
-      let s : State = after (new-state lines) mapped-window in
+      let s : State = after (new-state lines) set-mapped-window in
       let b : Burst = card-read 0x0080_2004 1 buffer in
       let p : Piece = record { pci = 0x0080_2004; count = 1; job = reading } in
       let answered : PieceOutcome → Answer = λ o. burst-answer b (run-piece s o (run (after-piece s o) []) .replies) in
