@@ -90,7 +90,7 @@ cut-reads f e (suc turns) pci left =
 piece-in-line : (pci left : ℕ) → pci % 4 ≡ 0 → (left ≡ 0 → ⊥) → (pci + 4 * in-line pci left - 1) / 32 ≡ pci / 32
 piece-in-line pci left a h = omega arith
 
-cut-in-line : (turns pci left : ℕ) (job : Job) → pci % 4 ≡ 0 → All In-one-line (cut turns pci left job)
+pub cut-in-line : (turns pci left : ℕ) (job : Job) → pci % 4 ≡ 0 → All In-one-line (cut turns pci left job)
 cut-in-line zero pci left job a = tt
 cut-in-line (suc turns) pci left job a =
     ⊎-elim (λ e. cut-none (All In-one-line) turns pci left job e tt)

@@ -7,6 +7,7 @@ use Prim.Native.Nat.{ℕ, zero, suc, _/_}
 use native.Mathlib.Omega.{arith}
 use lib.Dec.{eqb}
 use lib.ListN.{getD, replicate, set}
+use Rattle.std.proofs.shelf.Lists.{getD-set-other, getD-set-same}
 use Rattle.std.proofs.shelf.Tests.{false≢true}
 use Rattle.std.proofs.shelf.Ways.{tells}
 use Rattle.std.specs.shelf.Lists.{All}
@@ -23,7 +24,7 @@ use Rattle.bridge.specs.Isolation.{after}
 use Rattle.bridge.specs.LookAside.{cached-page, filled, row, zero-row, zero-rows}
 use Rattle.bridge.specs.Pieces.{PieceOutcome, after-piece, outcome-at-content, outcome-at-place, piece-outcome}
 use Rattle.bridge.specs.Registers.{Register, haxr0, haxr1, haxr2, invalidate-all, pci-base, pci-mask, register-named, row-data, row-tag, rows-written, translated-base, window}
-use Rattle.bridge.specs.RowRuns.{Filled-row, Leaves-rows, Rows-in-runs, Rows-last, Rows-serve, Rows-valid}
+use Rattle.bridge.specs.RowRuns.{Filled-row, Leaves-rows, Rows-fill, Rows-in-runs, Rows-invalidate, Rows-last, Rows-serve, Rows-valid}
 use Rattle.bridge.specs.Runs.{Run, ends, run, run-unless}
 use Rattle.bridge.specs.State.{Control, State, new-state}
 use Rattle.bridge.specs.Translation.{Entry, Place, entry-fault, entry-of, located, located-by-claim, located-by-entry, located-by-row, located-by-window, names, pci-page, table-fault, target, unclaimed}
@@ -176,5 +177,21 @@ calls-filled (c ∷ cs) s f = calls-filled cs (performed s c .state) (call-fille
 rows-serve : Rows-serve
 rows-serve s pci number page c h lines = rw (c, h)
 
+rows-fill : Rows-fill
+rows-fill t n page long = record {
+  here = getD-set-same (t .rows) (t .pointer) _ zero-row (omega (arith, t .below));
+  others = λ i ne. getD-set-other (t .rows) (t .pointer) i _ zero-row ne;
+  next = λ low. omega arith;
+  wraps = λ last. omega arith;
+}
+
+zero-rows-at : (n i : ℕ) → getD (replicate n zero-row) i zero-row ≡ zero-row
+zero-rows-at zero i = refl
+zero-rows-at (suc n) zero = refl
+zero-rows-at (suc n) (suc i) = zero-rows-at n i
+
+rows-invalidate : Rows-invalidate
+rows-invalidate s v = record { rows = zero-rows-at 8; pointer = refl }
+
 pub rows-in-runs : Rows-in-runs
-rows-in-runs = record { last = rows-last; serve = rows-serve; valid = λ lines cs. calls-filled cs (new-state lines) zero-filled }
+rows-in-runs = record { last = rows-last; serve = rows-serve; valid = λ lines cs. calls-filled cs (new-state lines) zero-filled; fill = rows-fill; invalidate = rows-invalidate }

@@ -3,16 +3,17 @@ use mathlib.Core.Path.{_≡_}
 use mathlib.Core.Bool.{Bool, true, false}
 use mathlib.Core.List.{List, [], _∷_}
 use mathlib.Core.Logic.{_⊎_}
-use Prim.Native.Nat.{ℕ, _/_, _<_}
-use lib.Dec.{eqb}
+use Prim.Native.Nat.{ℕ, _+_, _/_, _<_}
+use lib.ListN.{length}
 use Rattle.memory.specs.Content.{Lines}
 use Rattle.std.specs.shelf.Lists.{All}
 use Rattle.std.specs.declared.option.Option.the-variants.{Some}
+use Rattle.bridge.specs.declared.look_aside.LookAside.{LookAside}
 use Rattle.bridge.specs.declared.look_aside.LookAsideRow.{LookAsideRow}
 use Rattle.bridge.specs.declared.registers.Registers.{Registers}
-use Rattle.bridge.specs.Calls.{Call, Request, card, decode, load, log-clear, log-read, processor, register-read, register-write, store}
+use Rattle.bridge.specs.Calls.{Call, Request, card, decode, load, log-clear, log-read, performed, processor, register-read, register-write, store}
 use Rattle.bridge.specs.Isolation.{after}
-use Rattle.bridge.specs.LookAside.{cached-page, row}
+use Rattle.bridge.specs.LookAside.{cached-page, filled, row}
 use Rattle.bridge.specs.State.{State, new-state}
 use Rattle.bridge.specs.Translation.{entry-of, located, names, page-address, pci-page, target}
 use Rattle.bridge.specs.Windows.{claim, entry-address}
@@ -54,7 +55,27 @@ Rows-serve =
 abbrev pub Rows-valid : Type 0
 Rows-valid = (lines : Lines) (cs : List Call) (i : ℕ) → row (after (new-state lines) cs .control .look-aside) i .valid ≡ true → Filled-row (row (after (new-state lines) cs .control .look-aside) i)
 
+-- the row under the pointer is filled, the others stay, and the pointer goes on by one, from 7 to 0
+pub record Filled-once (t : LookAside) (pci-page page : ℕ) : Type 0 where
+  pub here : row (filled t pci-page page) (t .pointer) ≡ record { valid = true; «pci_page» = pci-page; page = page }
+  pub others : (i : ℕ) → (i ≡ t .pointer → ⊥) → row (filled t pci-page page) i ≡ row t i
+  pub next : t .pointer < 7 → filled t pci-page page .pointer ≡ t .pointer + 1
+  pub wraps : t .pointer ≡ 7 → filled t pci-page page .pointer ≡ 0
+
+abbrev pub Rows-fill : Type 0
+Rows-fill = (t : LookAside) (pci-page page : ℕ) → length (t .rows) ≡ 8 → Filled-once t pci-page page
+
+-- a write of register 32, whatever the value, leaves no row and the pointer at 0
+pub record None-left (t : LookAside) : Type 0 where
+  pub rows : (i : ℕ) → row t i ≡ record { valid = false; «pci_page» = 0; page = 0 }
+  pub pointer : t .pointer ≡ 0
+
+abbrev pub Rows-invalidate : Type 0
+Rows-invalidate = (s : State) (v : ℕ) → None-left (performed s (processor (register-write 32 v)) .state .control .look-aside)
+
 pub record Rows-in-runs : Type 0 where
   pub last : Rows-last
   pub serve : Rows-serve
   pub valid : Rows-valid
+  pub fill : Rows-fill
+  pub invalidate : Rows-invalidate
