@@ -7,6 +7,7 @@ pub mod TranslationFacts
 pub mod ReadFacts
 pub mod MaskFacts
 pub mod WriteFacts
+pub mod BoundsFacts
 pub mod RefusalFacts
 pub mod Reach
 pub mod PieceSteps

@@ -20,6 +20,7 @@ use Rattle.bridge.specs.Calls.{Outcome, burst-outcome, card, performed}
 use Rattle.bridge.specs.Cuts.{In-one-line}
 use Rattle.bridge.specs.Pieces.{PieceReply, no-window, read-ended, words-dismissed, words-moved, words-stored}
 use Rattle.bridge.specs.Reads.{Fault-at, Read-end, at-absent, at-fault, at-no-window, at-spoiled, at-table, complete, serving}
+use Rattle.bridge.proofs.BoundsFacts.{alignment, bounds}
 use Rattle.bridge.specs.Refusals.{Checks-law, Refusals, Refused-exactly, Some-before-4}
 use Rattle.bridge.specs.Runs.{Counts, burst-answer, lent-buffer, answer-of-read, run, answer-of-write}
 use Rattle.bridge.specs.State.{State}
@@ -219,4 +220,4 @@ module _ (s : State) where
   some-by (card-write pci count words enables) values o (passes h m u) ok e = write-taken pci count words enables values ok e
 
 pub refusals : Refusals
-refusals = record { checks = checks-law; some-before-4 = λ s b values e. some-by s b values _ (checked s b) refl e }
+refusals = record { bounds = bounds; alignment = alignment; checks = checks-law; some-before-4 = λ s b values e. some-by s b values _ (checked s b) refl e }

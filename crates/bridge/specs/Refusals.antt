@@ -2,11 +2,13 @@
 use mathlib.Core.Path.{_≡_}
 use mathlib.Core.Bool.{true, false}
 use mathlib.Core.List.{List, []}
-use Prim.Native.Nat.{ℕ, _<_}
-use lib.ListN.{getD}
+use mathlib.Core.Logic.{_⊎_}
+use Prim.Native.Nat.{ℕ, _+_, _*_, _%_, _^_, _<_}
+use lib.ListN.{getD, length}
 use Rattle.memory.specs.Answers.{refusal}
+use Rattle.std.specs.Orderings.{Decides}
 use Rattle.std.specs.declared.option.Option.the-variants.{None}
-use Rattle.bridge.specs.Bursts.{Burst, burst-start, misaligned, out-of-bounds}
+use Rattle.bridge.specs.Bursts.{Burst, burst-start, card-read, card-write, misaligned, out-of-bounds}
 use Rattle.bridge.specs.Calls.{card, performed}
 use Rattle.bridge.specs.Runs.{lent-buffer}
 use Rattle.bridge.specs.State.{State}
@@ -27,6 +29,21 @@ pub record Checks-law (s : State) (b : Burst) : Type 0 where
 abbrev pub Some-before-4 : State → Burst → Type 0
 Some-before-4 s b = (values : List ℕ) → performed s (card b) .answer ≡ refusal 4 values → 0 < getD values 0 0
 
+-- the first check in words: the count is 0, over 64 or over a buffer, the end lies past 2^32, or an enable that is used is
+-- over 15
+abbrev pub Wrong-count : ℕ → ℕ → List ℕ → Type 0
+Wrong-count pci count buffer = (count ≡ 0) ⊎ ((64 < count) ⊎ ((length buffer < count) ⊎ (2 ^ 32 < pci + 4 * count)))
+
+abbrev pub Out-of-bounds : Burst → Type 0
+Out-of-bounds (card-read pci count buffer) = Wrong-count pci count buffer
+Out-of-bounds (card-write pci count words enables) = Wrong-count pci count words ⊎ ((length enables < count) ⊎ ((k : ℕ) × (k < count) × (15 < getD enables k 0)))
+
+-- and the second
+abbrev pub No-longword-address : Burst → Type 0
+No-longword-address b = burst-start b % 4 ≡ 0 → ⊥
+
 pub record Refusals : Type 0 where
+  pub bounds : (b : Burst) → Decides (out-of-bounds b) (Out-of-bounds b)
+  pub alignment : (b : Burst) → Decides (misaligned b) (No-longword-address b)
   pub checks : (s : State) (b : Burst) → Checks-law s b
   pub some-before-4 : (s : State) (b : Burst) → Some-before-4 s b
