@@ -8,3 +8,4 @@ pub mod TwinBursts
 pub mod TwinCalls
 pub mod LogFacts
 pub mod RowFacts
+pub mod WitnessFacts

@@ -18,3 +18,4 @@ pub mod AddressBits
 pub mod Cuts
 pub mod LogRuns
 pub mod RowRuns
+pub mod Witness
