@@ -144,7 +144,7 @@ none-held m number pci h =
     let same : window zero-registers number ≡ zero-window = cond-both (eqb number 1) _ _ (λ w. w ≡ zero-window) (λ _. refl) (λ _. refl) in
     both-ways (holds zero-window pci) refl (ap (λ w. holds w pci) (sym same) ∙ h .held)
 
-none-valid : (n index : ℕ) → getD (replicate n zero-row) index zero-row .valid ≡ true → ⊥
+pub none-valid : (n index : ℕ) → getD (replicate n zero-row) index zero-row .valid ≡ true → ⊥
 none-valid zero index h = both-ways _ refl h
 none-valid (suc n) zero h = both-ways _ refl h
 none-valid (suc n) (suc index) h = none-valid n index h
