@@ -13,7 +13,7 @@ use Rattle.std.proofs.shelf.Ways.{tells}
 use Rattle.memory.specs.Content.{bit}
 use Rattle.bridge.specs.declared.registers.Registers.{Registers}
 use Rattle.bridge.specs.declared.registers.Window.{Window}
-use Rattle.bridge.specs.AddressBits.{Address-bits, Agrees, Configuration-0-bits, Configuration-1-bits, Dense-memory-bits, Entry-bits, Holds-by-bits, Lane-bits, Plain-bits, Sparse-io-bits, Sparse-memory-bits, Target-base-bits}
+use Rattle.bridge.specs.AddressBits.{Page-bits, Address-bits, Agrees, Configuration-0-bits, Configuration-1-bits, Dense-memory-bits, Entry-bits, Holds-by-bits, Lane-bits, Plain-bits, Sparse-io-bits, Sparse-memory-bits, Target-base-bits}
 use Rattle.bridge.specs.Bits.{bits}
 use Rattle.bridge.specs.Processor.{configuration-0-address, configuration-1-address, device-bit, first-lane, lane-count, sparse-io-address, sparse-lanes, sparse-memory-address}
 use Rattle.bridge.specs.Windows.{enabled, entry-address, holds, mixed, plain-address, target-base}
@@ -112,6 +112,12 @@ module _ (w : Window) (pci : ℕ) where
         top = λ i g h. highest t m (x * 2 ^ 3 + 0) 10 mb lb _ i (i - 22) e (omega arith) ∙ field-at 32 22 (target-base w) (i - 22) (i + 0) (omega arith) (omega arith);
         beyond = λ i h. bit-beyond i 33 _ (omega arith) h;
       }
+
+page-bits : (page pci : ℕ) → Page-bits page pci
+page-bits page pci = record {
+  low = λ i _ h. bit-low i 13 page (bits 12 0 pci) (omega arith) ∙ field-at 12 0 pci i (i + 0) (omega arith) (omega arith);
+  high = λ i h. bit-high i 13 page (bits 12 0 pci) (field-below 12 0 pci) h;
+}
 
 -- no bit set: zero
 all-zero : (w n : ℕ) → n < 2 ^ w → ((i : ℕ) → i < w → bit n i ≡ false) → n ≡ 0
@@ -294,6 +300,7 @@ address-bits = record {
   target-base = target-base-bits;
   plain = plain-bits;
   entry = entry-bits;
+  page = page-bits;
   sparse-memory = sparse-memory-bits;
   dense-memory = dense-memory-bits;
   sparse-io = sparse-io-bits;

@@ -9,6 +9,7 @@ use Rattle.bridge.specs.declared.registers.Registers.{Registers}
 use Rattle.bridge.specs.declared.registers.Window.{Window}
 use Rattle.bridge.specs.Bits.{bits}
 use Rattle.bridge.specs.Processor.{configuration-0-address, configuration-1-address, first-lane, lane-count, sparse-io-address, sparse-lanes, sparse-memory-address}
+use Rattle.bridge.specs.Translation.{page-address}
 use Rattle.bridge.specs.Windows.{enabled, entry-address, holds, plain-address, target-base}
 
 -- each bit of a number from low to high is a bit of another number, some places up
@@ -49,6 +50,11 @@ pub record Entry-bits (w : Window) (pci : ℕ) : Type 0 where
   pub mixed : (j : ℕ) → 10 ≤ j → j ≤ 21 → bit (entry-address w pci) j ≡ cond (bit (w .mask) (j + 10)) (bit pci (j + 10)) (bit (target-base w) j)
   pub top : Bits-from (entry-address w pci) 22 32 (target-base w) 0
   pub beyond : Zero-from (entry-address w pci) 33
+
+-- an address in a page: the page number supplies bits 13 and up, the PCI address 12:0
+pub record Page-bits (page pci : ℕ) : Type 0 where
+  pub low : Bits-from (page-address page pci) 0 12 pci 0
+  pub high : (i : ℕ) → 13 ≤ i → bit (page-address page pci) i ≡ bit page (i - 13)
 
 -- sparse memory: PCI 26:2 is CPU 31:7, 1:0 is 0, and 31:27 is 0 if CPU 31:29 is 0, else HAXR1's
 pub record Sparse-memory-bits (r : Registers) (cpu : ℕ) : Type 0 where
@@ -91,6 +97,7 @@ pub record Address-bits : Type 0 where
   pub target-base : Target-base-bits
   pub plain : (w : Window) (pci : ℕ) → Plain-bits w pci
   pub entry : (w : Window) (pci : ℕ) → Entry-bits w pci
+  pub page : (page pci : ℕ) → Page-bits page pci
   pub sparse-memory : (r : Registers) (cpu : ℕ) → Sparse-memory-bits r cpu
   pub dense-memory : (cpu : ℕ) → Dense-memory-bits cpu
   pub sparse-io : (cpu : ℕ) → Sparse-io-bits cpu
