@@ -13,3 +13,4 @@ pub mod TwinBursts
 pub mod TwinCalls
 pub mod LogFacts
 pub mod RowFacts
+pub mod RegisterFacts

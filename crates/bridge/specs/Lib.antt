@@ -22,3 +22,4 @@ pub mod Reads
 pub mod Writes
 pub mod Translated
 pub mod Refusals
+pub mod RegisterMap

@@ -2,6 +2,7 @@
 ghost use Rattle.bridge.specs.AddressBits.{Address-bits};
 ghost use Rattle.bridge.specs.Cuts.{Cut-at-lines};
 ghost use Rattle.bridge.specs.Reads.{Reads};
+ghost use Rattle.bridge.specs.RegisterMap.{Register-map};
 ghost use Rattle.bridge.specs.WorkedAddresses.{Worked-addresses};
 ghost use Rattle.bridge.specs.Writes.{Writes};
 
@@ -28,4 +29,9 @@ pub fn reads_move_longwords()
 // A card write: what it stores, what it dismisses, what it counts, and where it ends.
 pub fn writes_store_lines()
     ensures { λ _. ⌜ Writes ⌝ }
+{}
+
+// The registers: what reads back after a write, what a write leaves, and which numbers are refused.
+pub fn register_map()
+    ensures { λ _. ⌜ Register-map ⌝ }
 {}
