@@ -14,3 +14,4 @@ pub mod TwinCalls
 pub mod LogFacts
 pub mod RowFacts
 pub mod RegisterFacts
+pub mod DecodeFacts

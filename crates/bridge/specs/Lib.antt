@@ -23,3 +23,4 @@ pub mod Writes
 pub mod Translated
 pub mod Refusals
 pub mod RegisterMap
+pub mod Decodes

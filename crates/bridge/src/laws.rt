@@ -1,6 +1,7 @@
 // Laws of the definitions, each the contract of a function that does nothing.
 ghost use Rattle.bridge.specs.AddressBits.{Address-bits};
 ghost use Rattle.bridge.specs.Cuts.{Cut-at-lines};
+ghost use Rattle.bridge.specs.Decodes.{Decoding};
 ghost use Rattle.bridge.specs.Reads.{Reads};
 ghost use Rattle.bridge.specs.RegisterMap.{Register-map};
 ghost use Rattle.bridge.specs.WorkedAddresses.{Worked-addresses};
@@ -29,6 +30,11 @@ pub fn reads_move_longwords()
 // A card write: what it stores, what it dismisses, what it counts, and where it ends.
 pub fn writes_store_lines()
     ensures { λ _. ⌜ Writes ⌝ }
+{}
+
+// The decoding of a processor address: which answer each address gets.
+pub fn decodes_by_region()
+    ensures { λ _. ⌜ Decoding ⌝ }
 {}
 
 // The registers: what reads back after a write, what a write leaves, and which numbers are refused.
