@@ -16,3 +16,5 @@ pub mod TwinCalls
 pub mod LogFacts
 pub mod RowFacts
 pub mod WitnessFacts
+pub mod RegisterFacts
+pub mod DecodeFacts

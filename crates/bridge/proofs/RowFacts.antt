@@ -101,12 +101,12 @@ burst-rows s b (Some number) = from-refl (s .control .look-aside)
 burst-rows s b None = run-rows (pieces b) s
 
 -- only 32 names the register that invalidates all rows
-invalidates-by-32 : (n : ℕ) → register-named n ≡ Some invalidate-all → n ≡ 32
+pub invalidates-by-32 : (n : ℕ) → register-named n ≡ Some invalidate-all → n ≡ 32
 invalidates-by-32 n e = grind (arith, tells)
 
 -- a register write leaves the rows, unless it is that one
 module _ (k : Control) (v : ℕ) where
-  left-unless : (o : Option Register) → (o ≡ Some invalidate-all → ⊥) → control-written k o v .look-aside ≡ k .look-aside
+  pub left-unless : (o : Option Register) → (o ≡ Some invalidate-all → ⊥) → control-written k o v .look-aside ≡ k .look-aside
   left-unless None ne = refl
   left-unless (Some (translated-base number)) ne = refl
   left-unless (Some (pci-base number)) ne = refl

@@ -23,3 +23,5 @@ pub mod Writes
 pub mod Translated
 pub mod Refusals
 pub mod Witness
+pub mod RegisterMap
+pub mod Decodes

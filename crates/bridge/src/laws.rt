@@ -1,9 +1,11 @@
 // Laws of the definitions, each the contract of a function that does nothing.
 ghost use Rattle.bridge.specs.AddressBits.{Address-bits};
 ghost use Rattle.bridge.specs.Cuts.{Cut-at-lines};
+ghost use Rattle.bridge.specs.Decodes.{Decoding};
 ghost use Rattle.bridge.specs.Reads.{Reads};
 ghost use Rattle.bridge.specs.Refusals.{Refusals};
 ghost use Rattle.bridge.specs.Translated.{Translates};
+ghost use Rattle.bridge.specs.RegisterMap.{Register-map};
 ghost use Rattle.bridge.specs.WorkedAddresses.{Worked-addresses};
 ghost use Rattle.bridge.specs.Writes.{Writes};
 
@@ -40,4 +42,14 @@ pub fn writes_store_lines()
 // When a burst is refused with 1, 2 or 3, and that 4 comes after a longword at least.
 pub fn bursts_are_refused_in_order()
     ensures { λ _. ⌜ Refusals ⌝ }
+{}
+
+// The decoding of a processor address: which answer each address gets.
+pub fn decodes_by_region()
+    ensures { λ _. ⌜ Decoding ⌝ }
+{}
+
+// The registers: what reads back after a write, what a write leaves, and which numbers are refused.
+pub fn register_map()
+    ensures { λ _. ⌜ Register-map ⌝ }
 {}
