@@ -11,9 +11,8 @@ use lib.Pow.{pow-mono}
 use Rattle.std.proofs.shelf.Bits.{pow-add, pow-pos, shl-below}
 use Rattle.std.proofs.shelf.Counted.{getD-map-counting, length-map-counting}
 use Rattle.std.proofs.shelf.Tests.{and-left, and-parts, cases-bool, cases-lt, cond-false, cond-true, eqb-false, eqb-true, le-leb, le-ltb, leb-true, lt-leb, ltb-false, or-parts}
-use Rattle.std.proofs.shelf.Ways.{decides-below-and}
 use Rattle.memory.specs.Content.{Content, absent, all-ones, bit, good, merged, overwritten, spoiled}
-use Rattle.memory.proofs.LinesAt.{length-merged}
+use Rattle.memory.proofs.LinesAt.{length-merged, ones-set}
 use Rattle.bridge.specs.Bursts.{wide-enable}
 use Rattle.bridge.specs.Longwords.{byte-of, enable-bits, line-byte, line-bytes, line-mask}
 use Rattle.bridge.specs.Writes.{Line-after, enabled-at, good-line, made-good, still-spoiled}
@@ -73,14 +72,6 @@ line-at offset words i h g = getD-map-counting (line-byte offset words) 0 32 i i
 merged-at : (mask : ℕ) (old new : List ℕ) (i : ℕ) → i < 32 → getD (merged mask old new) i 0 ≡ cond (bit mask i) (getD new i 0) (getD old i 0)
 unfolding merged
 merged-at mask old new i h = getD-map-counting (λ i. cond (bit mask i) (getD new i 0) (getD old i 0)) 0 32 i i 0 h (omega arith)
-
-all-below : (ℕ → Bool) → ℕ → Bool
-all-below p zero = true
-all-below p (suc n) = p n && all-below p n
-
-ones-set : (k : ℕ) → k < 32 → bit all-ones k ≡ true
-unfolding all-below
-ones-set = decides-below-and (bit all-ones) (λ k. bit all-ones k ≡ true) (all-below (bit all-ones)) (λ k. (λ e. e, λ e. e)) refl (λ _. refl) 32 .0 refl
 
 module _ (offset : ℕ) (words enables : List ℕ) (narrow : wide-enable enables ≡ false) where
   -- an enabled byte has the new value

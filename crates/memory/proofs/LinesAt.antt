@@ -21,7 +21,7 @@ all-below : (ℕ → Bool) → ℕ → Bool
 all-below p zero = true
 all-below p (suc n) = p n && all-below p n
 
-ones-set : (k : ℕ) → k < 32 → bit all-ones k ≡ true
+pub ones-set : (k : ℕ) → k < 32 → bit all-ones k ≡ true
 unfolding all-below
 ones-set = decides-below-and (bit all-ones) (λ k. bit all-ones k ≡ true) (all-below (bit all-ones)) (λ k. (λ e. e, λ e. e)) refl (λ _. refl) 32 .0 refl
 
