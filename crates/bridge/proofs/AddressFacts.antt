@@ -221,7 +221,7 @@ sparse-io-bits : (cpu : ℕ) → Sparse-io-bits cpu
 sparse-io-bits cpu = record { low = λ i _ h. field-at 28 5 cpu i (i + 5) (omega arith) (omega arith); beyond = λ i h. bit-beyond i 24 _ (field-below 28 5 cpu) h }
 
 -- a power of two has one bit
-bit-of-power : (d j : ℕ) → bit (2 ^ d) j ≡ eqb j d
+pub bit-of-power : (d j : ℕ) → bit (2 ^ d) j ≡ eqb j d
 bit-of-power d j = ⊎-elim
     (λ e. let f : j - d ≡ 0 = omega arith in ap (λ n. bit n j) one ∙ bit-high j d 1 0 (pow-pos d) (omega arith) ∙ ap (bit 1) f ∙ sym (eq-eqb j d e))
     (λ ne. ⊎-elim (λ l. ap (λ n. bit n j) one ∙ bit-low j d 1 0 l ∙ bit-of-zero j ∙ sym (ne-eqb j d (λ e. omega arith)))

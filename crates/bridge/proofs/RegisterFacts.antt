@@ -8,7 +8,7 @@ use native.Mathlib.Omega.{arith}
 use lib.Dec.{eqb}
 use lib.ListN.{getD, replicate}
 use Rattle.std.proofs.shelf.Bits.{pow-pos}
-use Rattle.std.proofs.shelf.Tests.{both-ways, cases-bool, cases-eq, cases-lt, cond-false, cond-true, eq-eqb, ne-eqb}
+use Rattle.std.proofs.shelf.Tests.{and-left, and-right, both-ways, cases-bool, cases-eq, cases-lt, cond-false, cond-true, eq-eqb, ne-eqb}
 use Rattle.std.proofs.shelf.Ways.{tells}
 use Rattle.std.specs.declared.option.Option.{Option}
 use Rattle.std.specs.declared.option.Option.the-variants.{Some, None}
@@ -17,12 +17,13 @@ use Rattle.memory.specs.Content.{bit}
 use Rattle.bridge.specs.declared.look_aside.LookAside.{LookAside}
 use Rattle.bridge.specs.declared.look_aside.LookAsideRow.{LookAsideRow}
 use Rattle.bridge.specs.declared.registers.Registers.{Registers}
-use Rattle.bridge.specs.Bits.{bits, bits-kept, in-range}
+use Rattle.bridge.specs.Bits.{bits, bits-kept, flag, in-range}
 use Rattle.bridge.specs.Calls.{Outcome, control-written, processor, register-read, register-write}
-use Rattle.bridge.specs.LookAside.{zero-row, zero-rows}
-use Rattle.bridge.specs.RegisterMap.{From-to, Leaves, Listed, Reads-back, Refused-with-10, Register-map, Row-register, Writable, after-write, kept-bit, read-of}
-use Rattle.bridge.specs.Registers.{Register, data-value, haxr0, haxr1, haxr2, invalidate-all, pci-base, pci-mask, read-only, register-named, register-read-answer, register-write-answer, row-data, row-tag, tag-value, translated-base}
+use Rattle.bridge.specs.LookAside.{row, zero-row, zero-rows}
+use Rattle.bridge.specs.RegisterMap.{From-to, Leaves, Listed, Parts, Reads-back, Refused-with-10, Register-map, Row-register, Writable, after-write, kept-bit, read-of}
+use Rattle.bridge.specs.Registers.{Register, data-value, haxr0, haxr1, haxr2, invalidate-all, pci-base, pci-mask, read-only, register-named, register-read-answer, register-value, register-write-answer, row-data, row-tag, tag-value, translated-base}
 use Rattle.bridge.specs.State.{Control, State}
+use Rattle.bridge.proofs.AddressFacts.{bit-of-power}
 use Rattle.bridge.proofs.BitFacts.{bit-beyond, bit-field, bit-high, bit-low, bit-of-zero, field-below}
 use Rattle.bridge.proofs.RowFacts.{invalidates-by-32, left-unless}
 
@@ -331,5 +332,80 @@ reads-back s n v w =
     record { succeeds = answers-write (register-named n) (named-writable n w); value = kept-value n v; read = reads-back-low s n v l; bits = kept-value-bits v n l })
     (cases-eq n 32)
 
+-- the low bits of a number, k places up
+bit-moved : (high k n i : ℕ) → bit (bits high 0 n * 2 ^ k) i ≡ (in-range k (k + high) i && bit n (i - k))
+bit-moved high k n i =
+    let x = bits high 0 n in
+    let at : x * 2 ^ k ≡ x * 2 ^ k + 0 = omega arith in
+    ap (λ m. bit m i) at
+    ∙ ⊎-elim
+    (λ l. bit-low i k x 0 l ∙ bit-of-zero i ∙ ap (λ b. b && bit n (i - k)) (sym (out i (inl l))))
+    (λ g. bit-high i k x 0 (pow-pos k) g
+    ∙ ⊎-elim
+    (λ l. let e : 0 + (i - k) ≡ i - k = omega arith in bit-field high 0 n (i - k) l ∙ ap (bit n) e ∙ ap (λ b. b && bit n (i - k)) (sym (inside i g (omega arith))))
+    (λ h. bit-beyond (i - k) (high + 1 - 0) x (field-below high 0 n) h ∙ ap (λ b. b && bit n (i - k)) (sym (out i (inr (omega arith)))))
+    (cases-lt (i - k) (high + 1 - 0)))
+    (cases-lt i k)
+  where
+    out : (i : ℕ) → (i < k) ⊎ (k + high < i) → in-range k (k + high) i ≡ false
+    out i o = grind (arith, tells)
+
+    inside : (i : ℕ) → k ≤ i → i ≤ k + high → in-range k (k + high) i ≡ true
+    inside i g l = grind (arith, tells)
+
+-- a tag: the valid bit below the page
+flag-bit : (b : Bool) (i : ℕ) → bit (flag b * 2 ^ 12) i ≡ (eqb i 12 && b)
+flag-bit true i = bit-of-power 12 i ∙ sym (and-true (eqb i 12))
+  where
+    and-true : (x : Bool) → (x && true) ≡ x
+    and-true true = refl
+    and-true false = refl
+flag-bit false i = bit-of-zero i ∙ sym (and-right (eqb i 12) false refl)
+
+flag-below : (b : Bool) → flag b * 2 ^ 12 < 2 ^ 13
+flag-below true = omega arith
+flag-below false = omega arith
+
+chosen : (x v r q : Bool) → r ≡ false → (x && v) ≡ cond x v (r && q)
+chosen true v r q h = refl
+chosen false v r q h = sym (and-left r q h)
+
+tag-bits : (r : LookAsideRow) (i : ℕ) → bit (tag-value r) i ≡ cond (eqb i 12) (r .valid) (in-range 13 31 i && bit (r .«pci_page») (i - 13))
+tag-bits r i =
+    let x = bits 18 0 (r .«pci_page») in
+    let f = flag (r .valid) * 2 ^ 12 in
+    let alone : x * 2 ^ 13 + 0 ≡ x * 2 ^ 13 = omega arith in
+    ⊎-elim
+    (λ l. bit-low i 13 x f l ∙ flag-bit (r .valid) i ∙ chosen (eqb i 12) (r .valid) (in-range 13 31 i) (bit (r .«pci_page») (i - 13)) (under i l))
+    (λ g. bit-high i 13 x f (flag-below (r .valid)) g ∙ sym (bit-high i 13 x 0 (omega arith) g) ∙ ap (λ n. bit n i) alone ∙ bit-moved 18 13 (r .«pci_page») i
+    ∙ sym (cond-false (eqb i 12) _ _ (ne-eqb i 12 (λ e. omega arith))))
+    (cases-lt i 13)
+  where
+    under : (i : ℕ) → i < 13 → in-range 13 31 i ≡ false
+    under i l = grind (arith, tells)
+
+tag-named : (k : ℕ) → k < 8 → register-named (16 + k) ≡ Some (row-tag k)
+tag-named k h = grind (arith, tells)
+
+data-named : (k : ℕ) → k < 8 → register-named (24 + k) ≡ Some (row-data k)
+data-named k h = grind (arith, tells)
+
+parts : (s : State) → Parts s
+parts s = record {
+  translated-1 = refl;
+  translated-2 = refl;
+  base-1 = refl;
+  base-2 = refl;
+  mask-1 = refl;
+  mask-2 = refl;
+  haxr1 = refl;
+  haxr2 = refl;
+  tag = λ k h. record { value = tag-value (row (s .control .look-aside) k); read = answered (16 + k) (tag-named k h); bits = tag-bits (row (s .control .look-aside) k) };
+  page-number = λ k h. record { value = data-value (row (s .control .look-aside) k); read = answered (24 + k) (data-named k h); bits = bit-moved 19 1 (row (s .control .look-aside) k .page) };
+}
+  where
+    answered : (n : ℕ) {r : Register} → register-named n ≡ Some r → read-of s n ≡ success (register-value (s .control .registers) (s .control .look-aside) r ∷ [])
+    answered n e = ap (register-read-answer (s .control .registers) (s .control .look-aside)) e
+
 pub register-map : Register-map
-register-map = record { reads-back = reads-back; leaves = leaves; read-refused = read-refused; write-refused = write-refused }
+register-map = record { reads-back = reads-back; leaves = leaves; parts = parts; read-refused = read-refused; write-refused = write-refused }

@@ -1,15 +1,15 @@
--- The register map: what reads back after a write, what a write leaves, and which numbers are refused.
+-- The register map: what each register reads, what reads back after a write, what a write leaves, and which numbers are refused.
 use mathlib.Core.Path.{_≡_}
 use mathlib.Core.Bool.{Bool, false, cond, _&&_, _||_}
 use mathlib.Core.List.{[], _∷_}
 use mathlib.Core.Logic.{_⊎_}
-use Prim.Native.Nat.{ℕ, _≤_}
+use Prim.Native.Nat.{ℕ, _+_, _-_, _<_, _≤_}
 use lib.Dec.{eqb}
 use Rattle.memory.specs.Answers.{Answer, success, refusal}
 use Rattle.memory.specs.Content.{bit}
 use Rattle.bridge.specs.Bits.{in-range}
 use Rattle.bridge.specs.Calls.{Call, performed, processor, register-read, register-write}
-use Rattle.bridge.specs.LookAside.{zero-rows}
+use Rattle.bridge.specs.LookAside.{row, zero-rows}
 use Rattle.bridge.specs.State.{State}
 
 -- the numbers of registers: 6 to 14 can be written, 16 to 31 belong to the rows and can only be read, and a write of 32
@@ -65,8 +65,29 @@ pub record Refused-with-10 (s : State) (c : Call) (P : Type 0) : Type 0 where
   pub refused : P → performed s c ≡ record { state = s; answer = refusal 10 []; buffer = [] }
   pub only : performed s c .answer ≡ refusal 10 [] → P
 
+-- a read answers one value with these bits
+pub record Reads-one (s : State) (n : ℕ) (has-bit : ℕ → Bool) : Type 0 where
+  pub value : ℕ
+  pub read : read-of s n ≡ success (value ∷ [])
+  pub bits : (i : ℕ) → bit value i ≡ has-bit i
+
+-- which part of the bridge's own record each register reads: of a row's tag, bits 31:13 are the PCI page and 12 is the valid
+-- bit; of its data, 20:1 are the page number
+pub record Parts (s : State) : Type 0 where
+  pub translated-1 : read-of s 6 ≡ success (s .control .registers .first .translated ∷ [])
+  pub translated-2 : read-of s 7 ≡ success (s .control .registers .second .translated ∷ [])
+  pub base-1 : read-of s 8 ≡ success (s .control .registers .first .base ∷ [])
+  pub base-2 : read-of s 9 ≡ success (s .control .registers .second .base ∷ [])
+  pub mask-1 : read-of s 10 ≡ success (s .control .registers .first .mask ∷ [])
+  pub mask-2 : read-of s 11 ≡ success (s .control .registers .second .mask ∷ [])
+  pub haxr1 : read-of s 13 ≡ success (s .control .registers .haxr1 ∷ [])
+  pub haxr2 : read-of s 14 ≡ success (s .control .registers .haxr2 ∷ [])
+  pub tag : (k : ℕ) → k < 8 → Reads-one s (16 + k) (λ i. cond (eqb i 12) (row (s .control .look-aside) k .valid) (in-range 13 31 i && bit (row (s .control .look-aside) k .«pci_page») (i - 13)))
+  pub page-number : (k : ℕ) → k < 8 → Reads-one s (24 + k) (λ i. in-range 1 20 i && bit (row (s .control .look-aside) k .page) (i - 1))
+
 pub record Register-map : Type 0 where
   pub reads-back : (s : State) (n v : ℕ) → Writable n → Reads-back s n v
   pub leaves : (s : State) (n v : ℕ) → Leaves s n v
+  pub parts : (s : State) → Parts s
   pub read-refused : (s : State) (n : ℕ) → Refused-with-10 s (processor (register-read n)) (Listed n → ⊥)
   pub write-refused : (s : State) (n v : ℕ) → Refused-with-10 s (processor (register-write n v)) (Writable n → ⊥)

@@ -49,7 +49,7 @@ pub fn decodes_by_region()
     ensures { λ _. ⌜ Decoding ⌝ }
 {}
 
-// The registers: what reads back after a write, what a write leaves, and which numbers are refused.
+// The registers: what each reads, what reads back after a write, what a write leaves, and which numbers are refused.
 pub fn register_map()
     ensures { λ _. ⌜ Register-map ⌝ }
 {}
