@@ -12,7 +12,9 @@ use Rattle.memory.specs.Answers.{Answer, refusal}
 use Rattle.bridge.specs.declared.registers.Registers.{Registers}
 use Rattle.bridge.specs.Bits.{bits, in-range}
 use Rattle.bridge.specs.Decodes.{Allowed, Decoded-by, Decodes, Decoding, In-region, dense-low-bits, in-configuration, in-dense-memory, in-sparse-io, in-sparse-memory, no-type, not-allowed, outside, to-configuration-0, to-configuration-1, to-dense-memory, to-sparse-io, to-sparse-memory}
-use Rattle.bridge.specs.Processor.{Space, configuration, decode-answer, decoded, decoded-configuration, decoded-dense, dense-memory, lanes-allowed, sparse-io, sparse-io-address, sparse-lanes, sparse-memory, sparse-memory-address, unless-lanes}
+use Rattle.bridge.specs.declared.decode.Space.{Space}
+use Rattle.bridge.specs.declared.decode.Space.the-variants.{Configuration, DenseMemory, SparseIo, SparseMemory}
+use Rattle.bridge.specs.Processor.{decode-answer, decoded, decoded-configuration, decoded-dense, lanes-allowed, sparse-io-address, sparse-lanes, sparse-memory-address, unless-lanes}
 
 range-from : (low high n : ℕ) → in-range low high n ≡ true → (low ≤ n) × (n ≤ high)
 range-from low high n e = let p = and-parts _ _ e in (leb-true _ _ (p .0), leb-true _ _ (p .1))
@@ -34,11 +36,11 @@ module _ (cpu : ℕ) where
   allows a = and-from _ _ (eq-eqb _ _ (a .low)) (le-leb _ _ (a .lanes))
 
   -- lanes that are not allowed
-  refused : (r : Registers) (space : Space) (answer : Answer) → In-region cpu space → (space ≡ dense-memory → ⊥) → (Allowed cpu → Decoded-by r cpu answer) → Decoded-by r cpu (unless-lanes cpu answer)
+  refused : (r : Registers) (space : Space) (answer : Answer) → In-region cpu space → (space ≡ DenseMemory → ⊥) → (Allowed cpu → Decoded-by r cpu answer) → Decoded-by r cpu (unless-lanes cpu answer)
   refused r space answer region sparse h =
       cond-both (lanes-allowed cpu) answer (refusal 12 []) (Decoded-by r cpu) (λ e. h (allowed e)) (λ e. not-allowed space region sparse (λ a. both-ways _ e (allows a)))
 
-  configured : (r : Registers) → In-region cpu configuration → Allowed cpu → Decoded-by r cpu (decoded-configuration cpu (bits 1 0 (r .haxr2)))
+  configured : (r : Registers) → In-region cpu Configuration → Allowed cpu → Decoded-by r cpu (decoded-configuration cpu (bits 1 0 (r .haxr2)))
   configured r region a =
       cond-both (eqb (bits 1 0 (r .haxr2)) 0) _ _ (Decoded-by r cpu)
       (λ e. to-configuration-0 region a (eqb-true _ _ e))
@@ -46,7 +48,7 @@ module _ (cpu : ℕ) where
       (λ f. to-configuration-1 region a (eqb-true _ _ f))
       (λ f. let ne = eqb-false _ _ e in let nf = eqb-false _ _ f in no-type region a (omega arith)))
 
-  dense : (r : Registers) → In-region cpu dense-memory → Decoded-by r cpu (decoded-dense cpu)
+  dense : (r : Registers) → In-region cpu DenseMemory → Decoded-by r cpu (decoded-dense cpu)
   dense r region = cond-both (eqb (bits 1 0 cpu) 0) _ _ (Decoded-by r cpu) (λ e. to-dense-memory region (eqb-true _ _ e)) (λ e. dense-low-bits region (eqb-false _ _ e))
 
   no-region : in-range 0x2_0000_0000 0x2_FFFF_FFFF cpu ≡ false → in-range 0x3_0000_0000 0x3_FFFF_FFFF cpu ≡ false → in-range 0x1_C000_0000 0x1_DFFF_FFFF cpu ≡ false → in-range 0x1_E000_0000 0x1_FFFF_FFFF cpu ≡ false
@@ -56,34 +58,34 @@ module _ (cpu : ℕ) where
   no-region e f g h (in-sparse-io l k) = no-range _ _ cpu g l k
   no-region e f g h (in-configuration l k) = no-range _ _ cpu h l k
 
-differs-memory : sparse-memory ≡ dense-memory → ⊥
+differs-memory : SparseMemory ≡ DenseMemory → ⊥
 differs-memory e = let z : _≡_ {A = ℕ} 0 1 = cc in omega arith
 
-differs-io : sparse-io ≡ dense-memory → ⊥
+differs-io : SparseIo ≡ DenseMemory → ⊥
 differs-io e = let z : _≡_ {A = ℕ} 0 1 = cc in omega arith
 
-differs-configuration : configuration ≡ dense-memory → ⊥
+differs-configuration : Configuration ≡ DenseMemory → ⊥
 differs-configuration e = let z : _≡_ {A = ℕ} 0 1 = cc in omega arith
 
 pub decodes : Decodes
 decodes r cpu =
     cond-both (in-range 0x2_0000_0000 0x2_FFFF_FFFF cpu) _ _ (Decoded-by r cpu)
-    (λ e. let p = range-from _ _ cpu e in let region = in-sparse-memory (p .0) (p .1) in refused cpu r sparse-memory _ region differs-memory (to-sparse-memory region))
+    (λ e. let p = range-from _ _ cpu e in let region = in-sparse-memory (p .0) (p .1) in refused cpu r SparseMemory _ region differs-memory (to-sparse-memory region))
     (λ e. cond-both (in-range 0x3_0000_0000 0x3_FFFF_FFFF cpu) _ _ (Decoded-by r cpu)
     (λ f. let p = range-from _ _ cpu f in dense cpu r (in-dense-memory (p .0) (p .1)))
     (λ f. cond-both (in-range 0x1_C000_0000 0x1_DFFF_FFFF cpu) _ _ (Decoded-by r cpu)
-    (λ g. let p = range-from _ _ cpu g in let region = in-sparse-io (p .0) (p .1) in refused cpu r sparse-io _ region differs-io (to-sparse-io region))
+    (λ g. let p = range-from _ _ cpu g in let region = in-sparse-io (p .0) (p .1) in refused cpu r SparseIo _ region differs-io (to-sparse-io region))
     (λ g. cond-both (in-range 0x1_E000_0000 0x1_FFFF_FFFF cpu) _ _ (Decoded-by r cpu)
-    (λ h. let p = range-from _ _ cpu h in let region = in-configuration (p .0) (p .1) in refused cpu r configuration _ region differs-configuration (configured cpu r region))
+    (λ h. let p = range-from _ _ cpu h in let region = in-configuration (p .0) (p .1) in refused cpu r Configuration _ region differs-configuration (configured cpu r region))
     (λ h. outside (λ space region. no-region cpu e f g h region)))))
 
 -- the one answer of a region
 module _ (r : Registers) (cpu : ℕ) where
   abbrev answer-in : Space → Answer
-  answer-in sparse-memory = unless-lanes cpu (decoded sparse-memory (sparse-memory-address r cpu) (sparse-lanes cpu))
-  answer-in dense-memory = decoded-dense cpu
-  answer-in sparse-io = unless-lanes cpu (decoded sparse-io (sparse-io-address cpu) (sparse-lanes cpu))
-  answer-in configuration = unless-lanes cpu (decoded-configuration cpu (bits 1 0 (r .haxr2)))
+  answer-in SparseMemory = unless-lanes cpu (decoded SparseMemory (sparse-memory-address r cpu) (sparse-lanes cpu))
+  answer-in DenseMemory = decoded-dense cpu
+  answer-in SparseIo = unless-lanes cpu (decoded SparseIo (sparse-io-address cpu) (sparse-lanes cpu))
+  answer-in Configuration = unless-lanes cpu (decoded-configuration cpu (bits 1 0 (r .haxr2)))
 
   in-space : {space : Space} → In-region cpu space → decode-answer r cpu ≡ answer-in space
   in-space (in-sparse-memory l k) = cond-true _ _ _ (in-yes 0x2_0000_0000 0x2_FFFF_FFFF cpu l k)
@@ -98,13 +100,13 @@ module _ (r : Registers) (cpu : ℕ) where
   not-in : ((space : Space) → In-region cpu space → ⊥) → decode-answer r cpu ≡ refusal 11 []
   not-in h =
       cond-both (in-range 0x2_0000_0000 0x2_FFFF_FFFF cpu) _ _ (λ a. a ≡ refusal 11 [])
-      (λ e. let p = range-from _ _ cpu e in absurd (h sparse-memory (in-sparse-memory (p .0) (p .1))))
+      (λ e. let p = range-from _ _ cpu e in absurd (h SparseMemory (in-sparse-memory (p .0) (p .1))))
       (λ _. cond-both (in-range 0x3_0000_0000 0x3_FFFF_FFFF cpu) _ _ (λ a. a ≡ refusal 11 [])
-      (λ e. let p = range-from _ _ cpu e in absurd (h dense-memory (in-dense-memory (p .0) (p .1))))
+      (λ e. let p = range-from _ _ cpu e in absurd (h DenseMemory (in-dense-memory (p .0) (p .1))))
       (λ _. cond-both (in-range 0x1_C000_0000 0x1_DFFF_FFFF cpu) _ _ (λ a. a ≡ refusal 11 [])
-      (λ e. let p = range-from _ _ cpu e in absurd (h sparse-io (in-sparse-io (p .0) (p .1))))
+      (λ e. let p = range-from _ _ cpu e in absurd (h SparseIo (in-sparse-io (p .0) (p .1))))
       (λ _. cond-both (in-range 0x1_E000_0000 0x1_FFFF_FFFF cpu) _ _ (λ a. a ≡ refusal 11 [])
-      (λ e. let p = range-from _ _ cpu e in absurd (h configuration (in-configuration (p .0) (p .1))))
+      (λ e. let p = range-from _ _ cpu e in absurd (h Configuration (in-configuration (p .0) (p .1))))
       (λ _. refl))))
 
   when-allowed : (answer : Answer) → Allowed cpu → unless-lanes cpu answer ≡ answer
@@ -113,11 +115,11 @@ module _ (r : Registers) (cpu : ℕ) where
   when-not : (answer : Answer) → (Allowed cpu → ⊥) → unless-lanes cpu answer ≡ refusal 12 []
   when-not answer n = cond-both (lanes-allowed cpu) _ _ (λ a. a ≡ refusal 12 []) (λ e. absurd (n (allowed cpu e))) (λ _. refl)
 
-  not-allowed-in : (space : Space) → (space ≡ dense-memory → ⊥) → (Allowed cpu → ⊥) → answer-in space ≡ refusal 12 []
-  not-allowed-in sparse-memory d n = when-not _ n
-  not-allowed-in dense-memory d n = absurd (d refl)
-  not-allowed-in sparse-io d n = when-not _ n
-  not-allowed-in configuration d n = when-not _ n
+  not-allowed-in : (space : Space) → (space ≡ DenseMemory → ⊥) → (Allowed cpu → ⊥) → answer-in space ≡ refusal 12 []
+  not-allowed-in SparseMemory d n = when-not _ n
+  not-allowed-in DenseMemory d n = absurd (d refl)
+  not-allowed-in SparseIo d n = when-not _ n
+  not-allowed-in Configuration d n = when-not _ n
 
   the-answer : {a : Answer} → Decoded-by r cpu a → decode-answer r cpu ≡ a
   the-answer (to-sparse-memory region a) = in-space region ∙ when-allowed _ a

@@ -9,6 +9,7 @@ pub mod MaskFacts
 pub mod WriteFacts
 pub mod BoundsFacts
 pub mod RefusalFacts
+pub mod LaneFacts
 pub mod Reach
 pub mod PieceSteps
 pub mod TwinBursts

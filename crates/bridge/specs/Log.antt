@@ -8,6 +8,7 @@ use Rattle.bridge.specs.declared.log.Direction.{Direction}
 use Rattle.bridge.specs.declared.log.Direction.the-variants.{Read, Write}
 use Rattle.bridge.specs.declared.log.FaultRecord.{FaultRecord}
 use Rattle.bridge.specs.declared.log.FaultLog.{FaultLog}
+use Rattle.bridge.specs.declared.log.LogReading.{LogReading}
 use Rattle.bridge.specs.Bits.{flag}
 
 abbrev pub empty-log : FaultLog
@@ -33,3 +34,8 @@ log-values-by log (Some f) = f .number ∷ direction-number (f .direction) ∷ f
 
 abbrev pub log-values : FaultLog → List ℕ
 log-values log = log-values-by log (log .first)
+
+-- the same of what the code answers
+abbrev pub reading-values : Option LogReading → List ℕ
+reading-values None = []
+reading-values (Some r) = r .fault .number ∷ direction-number (r .fault .direction) ∷ r .fault .pci ∷ r .fault .line ∷ flag (r .missed) ∷ []

@@ -7,6 +7,11 @@ use lib.Dec.{eqb, leb}
 use Rattle.memory.specs.declared.MemoryFault.the-variants.{Absent, Spoiled}
 use Rattle.memory.specs.Answers.{Answer, Cause, bare, success, refusal}
 use Rattle.memory.specs.Content.{Content, Lines, absent, spoiled, good, all-ones, written}
+use Rattle.bridge.specs.declared.decode.Space.{Space}
+use Rattle.bridge.specs.declared.decode.Space.the-variants.{Configuration, DenseMemory, SparseIo, SparseMemory}
+use Rattle.bridge.specs.declared.decode.Cycle.{Cycle}
+use Rattle.bridge.specs.declared.decode.DecodeRefusal.{DecodeRefusal}
+use Rattle.bridge.specs.declared.decode.DecodeRefusal.the-variants as D
 use Rattle.bridge.specs.declared.processor.AccessRefusal.{AccessRefusal}
 use Rattle.bridge.specs.declared.processor.AccessRefusal.the-variants as R
 use Rattle.bridge.specs.declared.registers.Registers.{Registers}
@@ -49,17 +54,21 @@ abbrev pub lines-stored : Lines → ℕ → List ℕ → Lines
 lines-stored lines address bytes = cond (no-line address) lines (written (address / 32) bytes all-ones lines)
 
 -- Decoding. The four spaces, by number in an answer:
-pub data Space : Type 0 where
-  sparse-memory : Space
-  dense-memory : Space
-  sparse-io : Space
-  configuration : Space
-
 abbrev pub space-number : Space → ℕ
-space-number sparse-memory = 0
-space-number dense-memory = 1
-space-number sparse-io = 2
-space-number configuration = 3
+space-number SparseMemory = 0
+space-number DenseMemory = 1
+space-number SparseIo = 2
+space-number Configuration = 3
+
+-- a decoded cycle answers its space, its PCI address and its enabled lanes
+abbrev pub cycle-values : Cycle → List ℕ
+cycle-values c = space-number (c .space) ∷ c .pci ∷ c .lanes ∷ []
+
+-- each refusal by its number
+abbrev pub decode-cause : DecodeRefusal → Cause
+decode-cause D.Region = bare 11
+decode-cause D.Lanes = bare 12
+decode-cause D.ConfigurationType = bare 13
 
 -- the enabled lanes as a mask, bit j for lane j
 abbrev pub decoded : Space → ℕ → ℕ → Answer
@@ -101,8 +110,8 @@ configuration-1-address cpu = bits 28 7 cpu * 2 ^ 2 + 1
 -- the type is HAXR2's bits 1:0; 13 where they are 2 or 3
 abbrev pub decoded-configuration : ℕ → ℕ → Answer
 decoded-configuration cpu type =
-    cond (eqb type 0) (decoded configuration (configuration-0-address cpu) (sparse-lanes cpu))
-    (cond (eqb type 1) (decoded configuration (configuration-1-address cpu) (sparse-lanes cpu))
+    cond (eqb type 0) (decoded Configuration (configuration-0-address cpu) (sparse-lanes cpu))
+    (cond (eqb type 1) (decoded Configuration (configuration-1-address cpu) (sparse-lanes cpu))
     (refusal 13 []))
 
 abbrev pub unless-lanes : ℕ → Answer → Answer
@@ -110,13 +119,13 @@ unless-lanes cpu answer = cond (lanes-allowed cpu) answer (refusal 12 [])
 
 -- dense memory: PCI 31:0 is CPU 31:0, all lanes; CPU 1:0 must be 0
 abbrev pub decoded-dense : ℕ → Answer
-decoded-dense cpu = cond (eqb (bits 1 0 cpu) 0) (decoded dense-memory (bits 31 0 cpu) 15) (refusal 12 [])
+decoded-dense cpu = cond (eqb (bits 1 0 cpu) 0) (decoded DenseMemory (bits 31 0 cpu) 15) (refusal 12 [])
 
 -- the four regions; 11 outside them
 abbrev pub decode-answer : Registers → ℕ → Answer
 decode-answer r cpu =
-    cond (in-range 0x2_0000_0000 0x2_FFFF_FFFF cpu) (unless-lanes cpu (decoded sparse-memory (sparse-memory-address r cpu) (sparse-lanes cpu)))
+    cond (in-range 0x2_0000_0000 0x2_FFFF_FFFF cpu) (unless-lanes cpu (decoded SparseMemory (sparse-memory-address r cpu) (sparse-lanes cpu)))
     (cond (in-range 0x3_0000_0000 0x3_FFFF_FFFF cpu) (decoded-dense cpu)
-    (cond (in-range 0x1_C000_0000 0x1_DFFF_FFFF cpu) (unless-lanes cpu (decoded sparse-io (sparse-io-address cpu) (sparse-lanes cpu)))
+    (cond (in-range 0x1_C000_0000 0x1_DFFF_FFFF cpu) (unless-lanes cpu (decoded SparseIo (sparse-io-address cpu) (sparse-lanes cpu)))
     (cond (in-range 0x1_E000_0000 0x1_FFFF_FFFF cpu) (unless-lanes cpu (decoded-configuration cpu (bits 1 0 (r .haxr2))))
     (refusal 11 []))))

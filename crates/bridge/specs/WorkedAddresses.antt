@@ -8,7 +8,8 @@ use Rattle.memory.specs.Content.{Bounded, Lines, good}
 use Rattle.bridge.specs.Bursts.{card-read}
 use Rattle.bridge.specs.Calls.{Call, card, decode, performed, processor, register-write}
 use Rattle.bridge.specs.Isolation.{after}
-use Rattle.bridge.specs.Processor.{decoded, sparse-io, sparse-memory}
+use Rattle.bridge.specs.declared.decode.Space.the-variants.{SparseIo, SparseMemory}
+use Rattle.bridge.specs.Processor.{decoded}
 use Rattle.bridge.specs.State.{new-state}
 use Rattle.bridge.specs.Translation.{entry-number, place-of, target, unclaimed}
 use Rattle.bridge.specs.Windows.{entry-address}
@@ -44,6 +45,6 @@ pub record Worked-addresses : Type 0 where
   pub entry-1FFFFF : (lines : Lines) (buffer : List ℕ) → Bounded lines → Quadword lines 0x1_0008 0x1FFFFF → 0 < length buffer
       → performed (after (new-state lines) set-mapped-window) (card (card-read 0x0080_2004 1 buffer)) .answer ≡ refusal 8 (0 ∷ 0x0080_2004 ∷ 0xFFF_FF00 ∷ [])
   -- decoding: lane 1 alone is the mask 2, all lanes are 15
-  pub sparse-low : (lines : Lines) → performed (new-state lines) (processor (decode 0x2_0140_0020)) .answer ≡ decoded sparse-memory 0x000A_0000 2
-  pub sparse-high : (lines : Lines) → performed (after (new-state lines) (processor (register-write 13 0x8000_0000) ∷ [])) (processor (decode 0x2_2000_0118)) .answer ≡ decoded sparse-memory 0x8100_0008 15
-  pub io : (lines : Lines) → performed (new-state lines) (processor (decode 0x1_C000_7FA0)) .answer ≡ decoded sparse-io 0x3FD 2
+  pub sparse-low : (lines : Lines) → performed (new-state lines) (processor (decode 0x2_0140_0020)) .answer ≡ decoded SparseMemory 0x000A_0000 2
+  pub sparse-high : (lines : Lines) → performed (after (new-state lines) (processor (register-write 13 0x8000_0000) ∷ [])) (processor (decode 0x2_2000_0118)) .answer ≡ decoded SparseMemory 0x8100_0008 15
+  pub io : (lines : Lines) → performed (new-state lines) (processor (decode 0x1_C000_7FA0)) .answer ≡ decoded SparseIo 0x3FD 2

@@ -1,6 +1,12 @@
 // The log of faults: the first one, and whether others came after it.
 ghost use mathlib.Core.Path.{_≡_};
-ghost use Rattle.bridge.specs.Log.{empty-log};
+ghost use mathlib.Core.List.{[]};
+ghost use Rattle.memory.specs.Answers.{success};
+ghost use Rattle.bridge.specs.Calls.{log-clear, log-read, performed, processor};
+ghost use Rattle.bridge.specs.Log.{empty-log, reading-values};
+ghost use Rattle.bridge.specs.State.{state-of};
+use crate::Bridge;
+use memory::Memory;
 
 // What a card asked for.
 #[derive(Clone, Copy)]
@@ -13,10 +19,10 @@ pub enum Direction {
 // target.
 #[derive(Clone, Copy)]
 pub struct FaultRecord {
-    number: u8,
-    direction: Direction,
-    pci: u32,
-    line: u64,
+    pub number: u8,
+    pub direction: Direction,
+    pub pci: u32,
+    pub line: u64,
 }
 
 #[derive(Clone, Copy)]
@@ -33,5 +39,33 @@ impl FaultLog {
             first: None,
             missed: false,
         }
+    }
+}
+
+// What a filled log says: the first fault since it was cleared, and whether others came after it.
+#[derive(Clone, Copy)]
+pub struct LogReading {
+    pub fault: FaultRecord,
+    pub missed: bool,
+}
+
+impl<M: Memory> Bridge<M> {
+    // What the log says, or nothing where it is empty.
+    pub fn log_read(&self) -> Option<LogReading>
+        ensures { λ r. ⌜ success (reading-values r) ≡ performed (state-of (M·Memory .content) (now (self .entry))) (processor log-read) .answer ⌝ }
+    {
+        let fault = self.log.first?;
+        Some(LogReading {
+            fault,
+            missed: self.log.missed,
+        })
+    }
+
+    // Empties the log.
+    pub fn log_clear(&mut self)
+        ensures answer { λ r. ⌜ success [] ≡ performed (state-of (M·Memory .content) (now (self .entry))) (processor log-clear) .answer ⌝ }
+        ensures after { λ r. ⌜ state-of (M·Memory .content) (now (self .exit)) ≡ performed (state-of (M·Memory .content) (now (self .entry))) (processor log-clear) .state ⌝ }
+    {
+        self.log = FaultLog::empty();
     }
 }

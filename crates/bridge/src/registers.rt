@@ -36,4 +36,16 @@ impl Registers {
             haxr2: 0,
         }
     }
+
+    pub(crate) fn haxr1(&self) -> u32
+        ensures { λ r. ⌜ r ≡ now (self .entry) .haxr1 ⌝ }
+    {
+        self.haxr1
+    }
+
+    pub(crate) fn haxr2(&self) -> u32
+        ensures { λ r. ⌜ r ≡ now (self .entry) .haxr2 ⌝ }
+    {
+        self.haxr2
+    }
 }
