@@ -3,11 +3,13 @@ use mathlib.Core.Bool.{Bool, true, false, cond}
 use mathlib.Core.List.{List, [], _∷_}
 use Prim.Native.Nat.{ℕ, _+_, _-_, _*_, _^_}
 use lib.Dec.{eqb}
-use Rattle.memory.specs.Answers.{Answer, success, refusal}
+use Rattle.memory.specs.Answers.{Answer, Cause, bare, success, refusal}
 use Rattle.std.specs.declared.option.Option.{Option}
 use Rattle.std.specs.declared.option.Option.the-variants.{Some, None}
 use Rattle.bridge.specs.declared.look_aside.LookAsideRow.{LookAsideRow}
 use Rattle.bridge.specs.declared.look_aside.LookAside.{LookAside}
+use Rattle.bridge.specs.declared.registers.RegisterRefusal.{RegisterRefusal}
+use Rattle.bridge.specs.declared.registers.RegisterRefusal.the-variants.{NotListed, ReadOnly}
 use Rattle.bridge.specs.declared.registers.Window.{Window}
 use Rattle.bridge.specs.declared.registers.Registers.{Registers}
 use Rattle.bridge.specs.Bits.{bits, bits-kept, flag, in-range}
@@ -127,3 +129,13 @@ register-read-answer r t (Some register) = success (register-value r t register 
 abbrev pub register-write-answer : Option Register → Answer
 register-write-answer None = refusal 10 []
 register-write-answer (Some register) = cond (read-only register) (refusal 10 []) (success [])
+
+-- both causes of a refusal have number 10
+abbrev pub register-cause : RegisterRefusal → Cause
+register-cause NotListed = bare 10
+register-cause ReadOnly = bare 10
+
+-- the registers after a write; a number that names none changes nothing
+abbrev pub registers-after : Registers → Option Register → ℕ → Registers
+registers-after r None v = r
+registers-after r (Some register) v = registers-written r register v

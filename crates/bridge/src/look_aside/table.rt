@@ -1,6 +1,8 @@
 // The table of look-aside rows.
 ghost use mathlib.Core.Path.{_≡_};
-ghost use Rattle.bridge.specs.LookAside.{zero-rows};
+ghost use Prim.Native.Nat.{_<_};
+ghost use Rattle.bridge.specs.LookAside.{row, zero-rows};
+ghost use Rattle.bridge.specs.Registers.{data-value, tag-value};
 use super::LookAside;
 use super::LookAsideRow;
 
@@ -19,5 +21,23 @@ impl LookAside {
             rows: [ZERO_ROW; 8],
             pointer: 0,
         }
+    }
+
+    // The tag of a row: its PCI page in bits 31:13, and whether it is valid in bit 12.
+    pub(crate) fn tag(&self, i: usize) -> u32
+        requires { ⌜ i < 8 ⌝ }
+        ensures { λ r. ⌜ r ≡ tag-value (row (now (self .entry)) i) ⌝ }
+    {
+        let row = self.rows[i];
+        let valid = if row.valid { 0x1000 } else { 0 };
+        row.pci_page % 0x8_0000 * 0x2000 + valid
+    }
+
+    // The data of a row: its page number in bits 20:1.
+    pub(crate) fn data_of(&self, i: usize) -> u32
+        requires { ⌜ i < 8 ⌝ }
+        ensures { λ r. ⌜ r ≡ data-value (row (now (self .entry)) i) ⌝ }
+    {
+        self.rows[i].page % 0x10_0000 * 2
     }
 }
