@@ -1,10 +1,10 @@
 -- What the lines hold under marks after a mark and after a full write.
-use Rattle.std.proofs.Common.{◌≡◌, ℕ, Bool, true, false, cond, not, ◌&&◌, ◌||◌, eqb, List, [], ◌∷◌, ◌++◌, length, sym, refl, ap, ◌∙◌, ⊎_elim}
+use Rattle.std.proofs.Common.{◌≡◌, ℕ, Bool, true, false, cond, not, ◌&&◌, eqb, List, [], ◌∷◌, ◌++◌, length, sym, refl, ap, ◌∙◌, ⊎_elim}
 use mathlib.Core.Path.{fun_ext}
 use Rattle.std.proofs.lemmas.Bool.{and_right, cases_eq, cond-false, cond-true, eq-eqb, false≢true, ne_eqb, or_left}
 use Rattle.memory.specs.declared.marks.Mark.{Mark}
 use Rattle.memory.specs.Answers.{success}
-use Rattle.memory.specs.Content.{Content, Has32Bytes, Lines, absent, all_ones, good, is_present, overwritten, spoiled, written}
+use Rattle.memory.specs.Content.{Content, Lines, absent, all_ones, good, is_present, overwritten, spoiled, written}
 use Rattle.memory.specs.Marked.{lines_marked, marked, spoil, under_marks}
 use Rattle.memory.specs.LinesAt.{merged_full}
 use Rattle.memory.proofs.MarkLists.{marked_push}

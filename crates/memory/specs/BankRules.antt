@@ -1,16 +1,15 @@
 -- The checks of a bank list are its rules.
-use Rattle.std.specs.Prelude.{◌≡◌, ℕ, zero, suc, ◌+◌, ◌%◌, ◌<◌, ◌≤◌, Bool, true, false, ◌&&◌, ◌⊎◌, List, [], ◌∷◌, length, take, drop, is_some, Some, None, Option, ◌≢◌, nat_le, refl}
-use Rattle.std.proofs.Common.{sym, ap, subst, ◌∙◌, inl, inr, ⊎_elim, arith, below_more}
+use Rattle.std.specs.Prelude.{◌≡◌, ℕ, zero, suc, ◌+◌, ◌<◌, ◌≤◌, true, false, List, [], ◌∷◌, length, take, drop, is_some, Some, None, Option, ◌≢◌, nat_le, refl}
+use Rattle.std.proofs.Common.{sym, subst, ◌∙◌, ⊎_elim, arith, below_more}
 use Rattle.std.proofs.lemmas.Nat.{pow_pos}
 use Rattle.std.proofs.lemmas.List.{get_or-take, length-take}
 use Rattle.std.proofs.lemmas.Bool.{and_from, and_parts, cases_Bool, cases_lt, cond-true, cond-false, eq-eqb, le-leb, leb-true, leb-false, true≢false}
 use Rattle.std.proofs.lemmas.Bool.Decides.{nat_tests}
-use Rattle.memory.specs.Answers.{Answer}
 use Rattle.memory.specs.declared.banks.Bank.{Bank}
 use Rattle.memory.specs.declared.banks.BankFault.{BankFault}
 use Rattle.memory.specs.declared.banks.BankListRefusal.{BankListRefusal}
 use Rattle.memory.specs.declared.banks.BankListRefusal.TheVariants as R
-use Rattle.memory.specs.Banks.{Admitted, Counted, Judged, PowerSize, Sound, SoundUntil, TurnedDown, answer_by, apart, bank_fault, by_bank, by_count, by_total, clear, count_fits, fault_from, holds, list_answer, list_fault, nth, size_fits, total, unless_total}
+use Rattle.memory.specs.Banks.{Admitted, Counted, Judged, PowerSize, Sound, SoundUntil, answer_by, apart, bank_fault, by_bank, by_count, by_total, clear, count_fits, fault_from, holds, list_answer, list_fault, nth, size_fits, total, unless_total}
 use Rattle.memory.specs.BankChecks.{judge_all, judge_fault, judge_sound}
 use Rattle.memory.specs.Powers.{power_fits, size_power}
 

@@ -1,5 +1,5 @@
 -- Bank lists: which are admitted, what is wrong with any other, and where the lines of banks lie.
-use Rattle.std.specs.Prelude.{◌≡◌, ℕ, ◌+◌, ◌-◌, ◌*◌, ◌/◌, ◌%◌, ◌^◌, ◌<◌, ◌≤◌, Bool, true, false, cond, ◌&&◌, ◌||◌, ◌⊎◌, List, [], ◌∷◌, ◌++◌, length, take, Some, None, Ok, Err, Decides, sum_by, Option, Result, ◌==◌, ◌≢◌, count_ones, nat_le, nat_lt, slice_index_or}
+use Rattle.std.specs.Prelude.{◌≡◌, ℕ, ◌+◌, ◌-◌, ◌*◌, ◌/◌, ◌%◌, ◌^◌, ◌<◌, ◌≤◌, Bool, true, cond, ◌&&◌, ◌||◌, List, [], ◌∷◌, ◌++◌, length, take, Some, None, Ok, Err, Decides, sum_by, Option, Result, ◌==◌, ◌≢◌, count_ones, nat_le, nat_lt, slice_index_or}
 use Rattle.memory.specs.declared.banks.Bank.{Bank}
 use Rattle.memory.specs.declared.banks.BankFault.{BankFault}
 use Rattle.memory.specs.declared.banks.BankFault.TheVariants.{Size, Base, End, Overlap}

@@ -1,5 +1,5 @@
 -- Marks: a layer that spoils up to 32 lines of the memory below.
-use Rattle.std.specs.Prelude.{◌≡◌, ℕ, Bool, true, false, cond, not, ◌&&◌, ◌||◌, List, [], ◌∷◌, ◌++◌, length, ◌==◌, nat_le}
+use Rattle.std.specs.Prelude.{ℕ, Bool, true, false, cond, not, ◌&&◌, ◌||◌, List, [], ◌∷◌, ◌++◌, length, ◌==◌, nat_le}
 use Rattle.memory.specs.declared.marks.Mark.{Mark}
 use Rattle.memory.specs.declared.marks.MarkRefusal.{MarkRefusal}
 use Rattle.memory.specs.declared.marks.MarkRefusal.TheVariants.{Absent, Full}

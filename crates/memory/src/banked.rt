@@ -32,7 +32,7 @@ impl Layout for BankList {
 
     ghost apart = { λ l. places_apart (take l.count l.banks) (admitted (take l.count l.banks) l.room l.faultless).sound };
 
-    ghost below = { first_of (Prim.search rules, Prim.grind (arith, Self.row.coded.inj)) };
+    ghost below = { Prim.search rules };
 
     fn place_of(&self, line: u64) -> Option<usize> {
         place_in(self.as_slice(), line)

@@ -65,7 +65,7 @@ impl<L: Layout> Memory for Laid<L> {
 
     ghost beyond = { λ m line h. laid_out_beyond _ _ _ (L.Layout.below m.layout line h) };
 
-    ghost whole = { λ m. laid_out_whole _ m.bytes.len m.bytes.items (omega arith) };
+    ghost whole = { λ m. laid_out_whole _ m.bytes.len m.bytes.items (Prim.omega arith) };
 
     fn present(&self, line: u64) -> bool {
         self.offset_of(line).is_some()

@@ -1,4 +1,6 @@
 // Memories by line of 32 bytes: what a memory means, the kinds of memory, and the search that every table of rows shares.
+#![tactic(auto)]
+
 pub mod bank_list;
 pub mod banked;
 pub mod banks;

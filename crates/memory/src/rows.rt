@@ -12,7 +12,7 @@ pub trait Row {
 
 // The index of the first row that answers for n; none exactly if no row does.
 pub fn find<R: Row>(rows: &[R], n: u64) -> Option<usize>
-    ensures { Finds (λ row. answers row n) rows.now result }
+    ensures { Finds (λ row. R.answers row n) rows.now result }
 {
     for (i, row) in rows.iter().enumerate() {
         if row.answers(n) {
@@ -24,5 +24,5 @@ pub fn find<R: Row>(rows: &[R], n: u64) -> Option<usize>
 
 // What `find` may answer is one thing: what `first-index` computes.
 pub fn found_once<R: Row>(rows: &[R], n: u64)
-    ensures { FoundOnce (λ row. answers row n) rows.now }
+    ensures { FoundOnce (λ row. R.answers row n) rows.now }
 {}

@@ -1,4 +1,5 @@
 // Tests of the memories at their edges. The expected values are worked out from the rules in docs/MEMORIES.md.
+#![tactic(auto)]
 #[cfg(test)]
 mod tests {
     use memory::bank_list::BankList;

@@ -1,4 +1,5 @@
 // A session: one form to a line of the input, one reply to a line of the output.
+#![tactic(auto)]
 mod forms;
 mod input;
 mod lexer;

@@ -46,9 +46,9 @@ impl<M: Memory> Marks<M> {
 impl<M: Memory> Memory for Marks<M> {
     ghost content = { lines_under M.Memory.content };
 
-    ghost beyond = { first_of (Prim.search rules, Prim.grind (arith, Self.row.coded.inj)) };
+    ghost beyond = { Prim.search rules };
 
-    ghost whole = { first_of (Prim.search rules, Prim.grind (arith, Self.row.coded.inj)) };
+    ghost whole = { Prim.search rules };
 
     fn present(&self, line: u64) -> bool {
         self.below.present(line)

@@ -13,7 +13,7 @@ returns-in-CardRead g c =
     let pci = c.in-CardRead.pci in
     let count = c.in-CardRead.count in
     let came : List ℕ → Outcome = λ l. performed s (card (card_read pci count l)) in
-    let lent = c.as-mut-slice.ensures.value in
+    let lent = c.as_mut_slice.ensures.value in
     let is = c.in-CardRead.is in
     record {
       answer = c.card_read.ensures.answer ∙ ap (λ l. (came l).answer) lent ∙ sym (ap (λ b. (performed s (card (burst_of b))).answer) is);

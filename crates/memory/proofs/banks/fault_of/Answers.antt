@@ -15,7 +15,7 @@ returns-in-Some c =
 
 pub loop-i-preserved : goal.loop-i-preserved
 loop-i-preserved c =
-    let sound = simp sub-zero at (sym c.in-default.ensures) in
+    let sound = simp sub-zero at (sym c.in_default.ensures) in
     let small = faultless_size (take c.loop-i.i c.args.banks.now) (nth c.args.banks.now c.loop-i.i) sound in
     let more = sum_by_more (λ b. b.size) c.args.banks.now c.loop-i.i (record { base = 0; size = 0 }) c.loop-i-test.true in
     (c.loop-i.invariant.0 ∙ judge_sound c.args.banks.now c.loop-i.i c.loop-i-test.true sound, omega arith, omega arith)
@@ -24,4 +24,4 @@ pub returns : goal.returns
 returns c =
     let all : c.loop-i.sum ≡ total c.args.banks.now = c.loop-i.invariant.1 ∙ ap total (take_all _ _ c.loop-i-test.false) in
     let judged = count_admits c.args.banks.now c.args.n None c.if-banks-eq0.false (omega arith) (c.loop-i.invariant.0 ∙ judge_all _ _ c.loop-i-test.false) in
-    c.total-fault.ensures ∙ ap (λ sum. cond (leb sum c.args.n) None (Some R.Total)) all ∙ sym judged
+    c.total_fault.ensures ∙ ap (λ sum. cond (leb sum c.args.n) None (Some R.Total)) all ∙ sym judged

@@ -5,7 +5,7 @@ use Rattle.memory.proofs.marks.unmark.Goals as goal
 
 pub returns-in-Some : goal.returns-in-Some
 returns-in-Some c =
-    let left = c.remove.ensures.items ∙ removed_is c.args.marks.now.items c.in-Some.i c.args.line (simp c.as-slice.ensures.value at c.in-Some.ensures) in
+    let left = c.remove.ensures.items ∙ removed_is c.args.marks.now.items c.in-Some.i c.args.line (simp c.as_slice.ensures.value at c.in-Some.ensures) in
     record {
       len = omega arith;
       capacity = c.remove.ensures.capacity;
@@ -13,11 +13,11 @@ returns-in-Some c =
       items = left;
     }
 
-pub returns-in-default : goal.returns-in-default
-returns-in-default c =
+pub returns-in_default : goal.returns-in_default
+returns-in_default c =
     record {
       len = omega arith;
       capacity = refl;
       apart = c.requires;
-      items = without_none c.args.marks.now.items _ (simp c.as-slice.ensures.value at c.in-default.ensures);
+      items = without_none c.args.marks.now.items _ (simp c.as_slice.ensures.value at c.in_default.ensures);
     }

@@ -7,8 +7,8 @@ use Rattle.session.proofs.forms.form_of.Goals as goal
 pub returns : goal.returns
 returns c =
     let ts = c.args.tokens.now in
-    let e1 = c.if-not-opens-at.ensures.1 in
+    let e1 = c.if-not-opens_at.ensures.1 in
     let e2 = c.in-Some.ensures.1 in
-    let e3 = c.in-Some-name-of.ensures in
-    let e : lexemes ts ≡ opening ∷ word_of (name_bytes c.in-Some-name-of.name) ∷ lexemes (drop 2 ts) = cc in
-    form_parsed (lexemes ts) (lexemes (drop 2 ts)) c.in-Some-name-of.name c.arguments.result e c.arguments.ensures
+    let e3 = c.in-Some-name_of.ensures in
+    let e : lexemes ts ≡ opening ∷ word_of (name_bytes c.in-Some-name_of.name) ∷ lexemes (drop 2 ts) = cc in
+    form_parsed (lexemes ts) (lexemes (drop 2 ts)) c.in-Some-name_of.name c.arguments.result e c.arguments.ensures

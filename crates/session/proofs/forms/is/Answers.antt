@@ -4,4 +4,4 @@ use Rattle.session.proofs.forms.is.Goals as goal
 use Rattle.std.proofs.lemmas.Bool.Decides.{Decides-eqb}
 
 pub returns : goal.returns
-returns c = subst (λ l. Decides c.eq.result (c.args.word.now ≡ l)) c.as-bytes.ensures.value (slice_eq-Decides Decides-eqb _ _ _ c.eq.ensures)
+returns c = subst (λ l. Decides c.eq.result (c.args.word.now ≡ l)) c.as_bytes.ensures.value (slice_eq-Decides Decides-eqb _ _ _ c.eq.ensures)

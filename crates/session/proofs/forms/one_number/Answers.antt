@@ -9,7 +9,7 @@ pub returns : goal.returns
 returns c =
     let a = c.in-Some.a.now in
     let k = width_bits c.args.width in
-    let e = c.in-Some.ensures.1 ∙ ap (λ l. word_of a ∷ l) (c.ends-at.ensures.0 c.if-not-ends-at.false) in
-    parsed_both (λ n. n) (Reads k a) (One k _) c.read-number.result c.read-number.ensures
+    let e = c.in-Some.ensures.1 ∙ ap (λ l. word_of a ∷ l) (c.ends_at.ensures.0 c.if-not-ends_at.false) in
+    parsed_both (λ n. n) (Reads k a) (One k _) c.read_number.result c.read_number.ensures
     (λ n h. (a, e, h))
     (λ n h. subst (λ w. Reads k w n) (word_is (first_is (sym h.1 ∙ e))) h.2)

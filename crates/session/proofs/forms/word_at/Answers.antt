@@ -7,5 +7,5 @@ returns-then-i-tokens c w = none_left _ _ _ c.if-i-tokens.true
 pub returns-in-Word : goal.returns-in-Word
 returns-in-Word c = at_token _ _ _ _ c.if-i-tokens.false c.in-Word.is
 
-pub returns-in-default : goal.returns-in-default
-returns-in-default c = no_word_at _ _ _ c.if-i-tokens.false c.in-default.not-Word
+pub returns-in_default : goal.returns-in_default
+returns-in_default c = no_word_at _ _ _ c.if-i-tokens.false c.in_default.not-Word

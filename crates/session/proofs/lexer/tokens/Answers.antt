@@ -3,13 +3,13 @@ use Rattle.std.proofs.lemmas.List.{drop_all}
 use Rattle.session.proofs.Lexing.{goes_on, done, fails}
 use Rattle.session.proofs.lexer.tokens.Goals as goal
 
-pub returns-in-default : goal.returns-in-default
-returns-in-default c = fails c.args.line.now _ c.loop-at.at _ c.loop-at.invariant.1 (simp length-drop (omega arith)) c.in-default.ensures
+pub returns-in_default : goal.returns-in_default
+returns-in_default c = fails c.args.line.now _ c.loop-at.at _ c.loop-at.invariant.1 (simp length-drop (omega arith)) c.in_default.ensures
 
 pub loop-at-preserved : goal.loop-at-preserved
 loop-at-preserved c =
     let took = c.in-Some.ensures in
-    (took.3, goes_on c.args.line.now (vec_items c.loop-at.out) (vec_items c.push.new.self) c.loop-at.at c.loop-at.first c.is-open-first.result c.in-Some.token c.in-Some.end c.loop-at.invariant.1 took.0 took.1 took.2 c.in-ok-push.ensures.items c.is-open-first.ensures)
+    (took.3, goes_on c.args.line.now (vec_items c.loop-at.out) (vec_items c.push.new.self) c.loop-at.at c.loop-at.first c.is_open-first.result c.in-Some.token c.in-Some.end c.loop-at.invariant.1 took.0 took.1 took.2 c.in_ok-push.ensures.items c.is_open-first.ensures)
 
 pub returns : goal.returns
 returns c =

@@ -12,14 +12,14 @@ loop-n-preserved c =
     let n = c.loop-n.n in
     let lt : n < length (drop at line) = simp length-drop (omega arith) in (
       omega arith,
-      All-more (λ b. word_byte b ≡ true) (drop at line) n 0 lt c.loop-n.invariant.1 (rw get_or-drop (sym c.if-is-word-byte.ensures)),
+      All-more (λ b. word_byte b ≡ true) (drop at line) n 0 lt c.loop-n.invariant.1 (rw get_or-drop (sym c.if-is_word_byte.ensures)),
     )
 
-pub returns-else-is-word-byte : goal.returns-else-is-word-byte
-returns-else-is-word-byte c = record {
+pub returns-else-is_word_byte : goal.returns-else-is_word_byte
+returns-else-is_word_byte c = record {
   within = c.loop-n.invariant.0;
   all = c.loop-n.invariant.1;
-  stops = subst WordEnds (sym (drop_more c.args.line.now (c.args.at + c.loop-n.n) 0 c.loop-n-test.true)) (sym c.if-is-word-byte.ensures);
+  stops = subst WordEnds (sym (drop_more c.args.line.now (c.args.at + c.loop-n.n) 0 c.loop-n-test.true)) (sym c.if-is_word_byte.ensures);
 }
 
 pub returns-after-loop-n : goal.returns-after-loop-n

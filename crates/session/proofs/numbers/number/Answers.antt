@@ -5,14 +5,14 @@ use Rattle.std.proofs.lemmas.List.{take_all}
 use Rattle.session.proofs.HexWords.{digits_at, room}
 use Rattle.session.proofs.numbers.number.Goals as goal
 
-pub returns-in-default : goal.returns-in-default
-returns-in-default c h = c.in-default.ensures.value (digits_at c.args.word.now c.loop-b.b-index h.0.1 (omega arith))
+pub returns-in_default : goal.returns-in_default
+returns-in_default c h = c.in_default.ensures.value (digits_at c.args.word.now c.loop-b.b-index h.0.1 (omega arith))
 
-pub overflow-mul-n : goal.overflow-mul-n
-overflow-mul-n c = let r = room c.args.word.now c.loop-b.b-index (omega arith) c.loop-b.invariant.2 c.loop-b.invariant.1 in omega arith
+pub overflow_mul-n : goal.overflow_mul-n
+overflow_mul-n c = let r = room c.args.word.now c.loop-b.b-index (omega arith) c.loop-b.invariant.2 c.loop-b.invariant.1 in omega arith
 
-pub overflow-add-n : goal.overflow-add-n
-overflow-add-n c =
+pub overflow_add-n : goal.overflow_add-n
+overflow_add-n c =
     let r = room c.args.word.now c.loop-b.b-index (omega arith) c.loop-b.invariant.2 c.loop-b.invariant.1 in
     let d = c.in-Some.ensures.value in
     omega arith
@@ -32,5 +32,5 @@ pub returns : goal.returns
 returns c =
     let w = c.args.word.now in
     let all : take c.loop-b.b-index w ≡ w = take_all c.loop-b.b-index w (omega arith) in
-    let some = false-eqb (length w) 0 c.if-is-empty.ensures in
+    let some = false-eqb (length w) 0 c.if-is_empty.ensures in
     (((omega arith, subst (AllDigits 16) all c.loop-b.invariant.1), c.loop-b.invariant.2), c.loop-b.invariant.0 ∙ ap (digits_value 16) all)

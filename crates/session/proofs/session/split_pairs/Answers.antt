@@ -15,8 +15,8 @@ loop-pair-preserved c =
     let pairs = c.args.pairs.now in
     let i = c.loop-pair.pair-index in
     let lt = c.loop-pair-test.true in (
-      more (λ p. p.longword) pairs i no_pair (get_or pairs i no_pair).longword (vec_items c.loop-pair.words) _ lt c.loop-pair.invariant.0 refl c.in-ok-push.ensures.items,
-      more (λ p. min p.enables 255) pairs i no_pair c.byte-enables.result (vec_items c.loop-pair.enables) _ lt c.loop-pair.invariant.1 c.byte-enables.ensures c.in-ok-push-2.ensures.items,
+      more (λ p. p.longword) pairs i no_pair (get_or pairs i no_pair).longword (vec_items c.loop-pair.words) _ lt c.loop-pair.invariant.0 refl c.in_ok-push.ensures.items,
+      more (λ p. min p.enables 255) pairs i no_pair c.byte_enables.result (vec_items c.loop-pair.enables) _ lt c.loop-pair.invariant.1 c.byte_enables.ensures c.in_ok-push-2.ensures.items,
     )
 
 pub returns : goal.returns

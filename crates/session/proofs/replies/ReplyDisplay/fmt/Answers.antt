@@ -4,10 +4,10 @@ use Rattle.session.specs.Replies.{ok_text, reply_text}
 use Rattle.session.proofs.ReplyTexts.{longwords_text}
 use Rattle.session.proofs.replies.ReplyDisplay.fmt.Goals as goal
 
-pub returns-in-ok-write-longwords-clause-writes : goal.returns-in-ok-write-longwords-clause-writes
-returns-in-ok-write-longwords-clause-writes g c plain ok =
+pub returns-in_ok-write_longwords-clause-writes : goal.returns-in_ok-write_longwords-clause-writes
+returns-in_ok-write_longwords-clause-writes g c plain ok =
     let took = g.W.Write.write_str_gives in
-    let x = c.in-ok-write-str.ensures.writes plain refl in
-    let y = c.in-ok-write-longwords.ensures x.plain refl in
-    let z = c.write-str-in-Longwords-2.ensures.writes y.plain ok in
-    has_written_of_eq took _ _ _ _ (longwords_text _ ∙ ap ok_text c.as-slice.ensures.value ∙ ap reply_text (sym c.in-Longwords.is)) (has_written_append took _ _ _ _ _ x (has_written_append took _ _ _ _ _ y z))
+    let x = c.in_ok-write_str.ensures.writes plain refl in
+    let y = c.in_ok-write_longwords.ensures x.plain refl in
+    let z = c.write_str-in-Longwords-2.ensures.writes y.plain ok in
+    has_written_of_eq took _ _ _ _ (longwords_text _ ∙ ap ok_text c.as_slice.ensures.value ∙ ap reply_text (sym c.in-Longwords.is)) (has_written_append took _ _ _ _ _ x (has_written_append took _ _ _ _ _ y z))

@@ -8,15 +8,15 @@ use Rattle.session.proofs.session.Session.cpu_store.Goals as goal
 pub returns : goal.returns
 returns c =
     let s = session_state c.args.self.now in
-    let t = session_state c.load-line.new.self in
+    let t = session_state c.load_line.new.self in
     let address = c.args.address in
     let value = c.args.value in
     let aligned : address % 8 ≡ 0 = omega arith in
-    let kept = c.load-line.ensures.after in
-    let loaded = c.in-ok-line.ensures.answer in
-    let put = ap (λ bytes. performed t (processor (store (line_start address) bytes))) c.put-quadword.ensures in
-    let all = put ∙ line_stored s t address value c.in-ok-line.line aligned loaded kept in
+    let kept = c.load_line.ensures.after in
+    let loaded = c.in_ok-line.ensures.answer in
+    let put = ap (λ bytes. performed t (processor (store (line_start address) bytes))) c.put_quadword.ensures in
+    let all = put ∙ line_stored s t address value c.in_ok-line.line aligned loaded kept in
     record {
-      answer = c.store-line.ensures.answer ∙ ap (λ (o : Outcome). o.answer) all;
-      after = c.store-line.ensures.after ∙ ap (λ (o : Outcome). o.state) all;
+      answer = c.store_line.ensures.answer ∙ ap (λ (o : Outcome). o.answer) all;
+      after = c.store_line.ensures.after ∙ ap (λ (o : Outcome). o.state) all;
     }

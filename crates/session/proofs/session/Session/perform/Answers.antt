@@ -39,13 +39,13 @@ returns-in-Mark c =
 
 pub returns-in-RegRead : goal.returns-in-RegRead
 returns-in-RegRead c = record {
-  replied = made_in c.args.self.now c.reg-read.new.self c.args.form.now _ (Ok c.reg-read.result) (ap asked c.in-RegRead.is) c.reg-read.ensures;
+  replied = made_in c.args.self.now c.reg_read.new.self c.args.form.now _ (Ok c.reg_read.result) (ap asked c.in-RegRead.is) c.reg_read.ensures;
   unchanged = tt;
 }
 
 pub returns-in-RegWrite : goal.returns-in-RegWrite
 returns-in-RegWrite c = record {
-  replied = made_in c.args.self.now c.reg-write.new.self c.args.form.now _ (Ok c.reg-write.result) (ap asked c.in-RegWrite.is) c.reg-write.ensures;
+  replied = made_in c.args.self.now c.reg_write.new.self c.args.form.now _ (Ok c.reg_write.result) (ap asked c.in-RegWrite.is) c.reg_write.ensures;
   unchanged = tt;
 }
 
@@ -63,6 +63,6 @@ returns-in-CardRead c = record {
 
 pub returns-in-CardWrite : goal.returns-in-CardWrite
 returns-in-CardWrite c = record {
-  replied = made_in c.args.self.now c.card_write.new.self c.args.form.now (N.CardWrite, (c.in-CardWrite.pci, map pair_of c.as-slice.result.now)) c.card_write.result (ap asked c.in-CardWrite.is ∙ ap (λ l. (N.CardWrite, (c.in-CardWrite.pci, map pair_of l))) (sym c.as-slice.ensures.value)) c.card_write.ensures.replied;
+  replied = made_in c.args.self.now c.card_write.new.self c.args.form.now (N.CardWrite, (c.in-CardWrite.pci, map pair_of c.as_slice.result.now)) c.card_write.result (ap asked c.in-CardWrite.is ∙ ap (λ l. (N.CardWrite, (c.in-CardWrite.pci, map pair_of l))) (sym c.as_slice.ensures.value)) c.card_write.ensures.replied;
   unchanged = c.card_write.ensures.unchanged;
 }
