@@ -1,11 +1,10 @@
 -- A burst served piece by piece: what was served, followed by a run of what is left, is the whole run.
-use Rattle.std.proofs.Common.{◌≡◌, ℕ, zero, suc, ◌+◌, ◌-◌, ◌*◌, ◌<◌, ◌≤◌, Bool, true, false, cond, eqb, ◌⊎◌, List, [], ◌∷◌, ◌++◌, Some, None, Option, sym, refl, ap, ◌∙◌, subst, inl, inr, ⊎_elim, arith}
-use Rattle.std.proofs.lemmas.Bool.{cond-false, cond-true, ne_eqb}
+use Rattle.std.proofs.Common.{◌≡◌, ℕ, zero, suc, ◌+◌, ◌-◌, ◌*◌, ◌<◌, ◌≤◌, Bool, true, false, cond, eqb, ◌⊎◌, List, [], ◌∷◌, ◌++◌, Some, None, sym, refl, ap, ◌∙◌, subst, inl, inr, ⊎_elim, arith}
+use Rattle.std.proofs.lemmas.Bool.{cond-false, ne_eqb}
 use Rattle.std.proofs.lemmas.List.{append_assoc, append-nil, drop-drop}
 use Rattle.std.specs.List.{AllByRecursion as All}
-use Rattle.bridge.specs.declared.registers.Registers.{Registers}
 use Rattle.bridge.specs.Bursts.{Burst, Job, Piece, cut, in_line, is_unclaimed, job_front, job_rest, pieces, reading, third_check, writing}
-use Rattle.bridge.specs.Calls.{Outcome, burst_outcome, burst_served}
+use Rattle.bridge.specs.Calls.{burst_outcome, burst_served}
 use Rattle.bridge.specs.Pieces.{PieceOutcome, PieceReply, after_piece, no_window, outcome_claimed, outcome_located, piece_outcome}
 use Rattle.bridge.specs.Runs.{Run, ends, run, run_piece, run_unless}
 use Rattle.bridge.specs.State.{State}

@@ -1,5 +1,5 @@
 -- One piece of a burst: it keeps to the open pages, and does the same in two runs that differ in hidden lines.
-use Rattle.std.proofs.Common.{◌≡◌, ℕ, ◌/◌, ◌^◌, ◌<◌, Bool, true, false, cond, eqb, List, sym, refl, ap, ◌∙◌, subst, inl, inr, ⊎_elim}
+use Rattle.std.proofs.Common.{◌≡◌, ℕ, ◌/◌, ◌^◌, ◌<◌, false, cond, eqb, sym, refl, ap, ◌∙◌, subst, inl, inr, ⊎_elim}
 use Rattle.std.proofs.lemmas.Bool.{cases_Bool, cond_both, eqb-true}
 use Rattle.memory.specs.Content.{Content, Lines, absent, good, overwritten, spoiled}
 use Rattle.bridge.specs.declared.log.FaultLog.{FaultLog}

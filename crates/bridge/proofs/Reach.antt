@@ -1,6 +1,6 @@
 -- Where a PCI address leads: into a page that is open to the cards, and to the same place for every memory with the same
 -- tables in use.
-use Rattle.std.proofs.Common.{◌≡◌, ℕ, zero, suc, ◌+◌, ◌/◌, ◌^◌, ◌<◌, Bool, true, false, cond, ◌⊎◌, List, [], ◌∷◌, length, get_or, set, Some, None, Option, sym, refl, ap, ◌∙◌, subst, inl, inr, ⊎_elim, arith}
+use Rattle.std.proofs.Common.{◌≡◌, ℕ, zero, suc, ◌/◌, ◌^◌, ◌<◌, Bool, true, false, ◌⊎◌, List, [], ◌∷◌, get_or, set, Some, None, Option, sym, refl, ap, ◌∙◌, subst, inl, inr, ⊎_elim, arith}
 use Rattle.std.proofs.lemmas.Nat.{mod_below, shr_high, shr-shr}
 use Rattle.std.proofs.lemmas.List.{length-set}
 use Rattle.std.proofs.lemmas.Bool.{and_parts, cond_both}
@@ -11,11 +11,11 @@ use Rattle.bridge.specs.declared.look_aside.LookAside.{LookAside}
 use Rattle.bridge.specs.declared.look_aside.LookAsideRow.{LookAsideRow}
 use Rattle.bridge.specs.Bits.{bits}
 use Rattle.bridge.specs.LookAside.{cached_page, filled, page_of_row, row, row_answers, zero_row}
-use Rattle.bridge.specs.Pages.{Held, InUse, NamedByEntry, NamedByRow, Open, PlainlyReached, line_page, page_of}
+use Rattle.bridge.specs.Pages.{InUse, NamedByRow, Open, line_page, page_of}
 use Rattle.bridge.specs.Registers.{window}
 use Rattle.bridge.specs.State.{State}
 use Rattle.bridge.specs.Translation.{Entry, Located, Place, entry_fault, entry_of, located, located_by_claim, located_by_entry, located_by_row, located_by_window, names, page_address, pci_page, table_fault, target, unclaimed}
-use Rattle.bridge.specs.Windows.{entry_address, holds, mapped, plain_address}
+use Rattle.bridge.specs.Windows.{entry_address, holds, mapped}
 
 -- the page of an address is that of its line
 pub page_of_line : (address : ℕ) → line_page (address / 32) ≡ page_of address

@@ -1,11 +1,11 @@
 -- A card read, piece by piece: its buffer, and its answer.
-use Rattle.std.proofs.Common.{◌≡◌, ℕ, zero, suc, ◌+◌, ◌-◌, ◌*◌, ◌<◌, ◌≤◌, Bool, true, false, cond, eqb, ◌⊎◌, List, [], ◌∷◌, ◌++◌, length, take, drop, Some, None, Ok, Err, Result, sym, refl, ap, ◌∙◌, subst, inl, inr, ⊎_elim, arith, eq-eqb}
+use Rattle.std.proofs.Common.{◌≡◌, ℕ, ◌+◌, ◌-◌, ◌*◌, ◌<◌, ◌≤◌, Bool, true, false, cond, eqb, List, [], ◌∷◌, ◌++◌, length, take, drop, Some, None, Ok, Err, Result, sym, refl, ap, ◌∙◌, subst, ⊎_elim, arith, eq-eqb}
 use borrow.Rule.Slice.PartMut.{put_mid}
 use Rattle.std.proofs.lemmas.List.{append_assoc, append-nil, drop-drop, length-drop, length-take, length-take-le, take-append-drop}
 use Rattle.std.proofs.lemmas.Slice.{take-put_mid, drop-put_mid}
 use Rattle.std.proofs.lemmas.Bool.{cond-false, cond-true, ne_eqb}
 use Rattle.std.specs.List.{AllByRecursion as All}
-use Rattle.memory.specs.Answers.{Answer, refusal, success}
+use Rattle.memory.specs.Answers.{Answer, refusal}
 use Rattle.bridge.specs.declared.bursts.BurstRefusal.{BurstRefusal}
 use Rattle.bridge.specs.declared.bursts.BurstRefusal.TheVariants.{Ended, Unclaimed}
 use Rattle.bridge.specs.declared.bursts.ReadEnd.{ReadEnd}
@@ -14,11 +14,11 @@ use Rattle.bridge.specs.declared.faults.BurstFault.{BurstFault}
 use Rattle.bridge.specs.declared.log.FaultLog.{FaultLog}
 use Rattle.bridge.specs.declared.look_aside.LookAside.{LookAside}
 use Rattle.bridge.specs.BurstAnswers.{read_answered}
-use Rattle.bridge.specs.Bursts.{Burst, Piece, card_read, in_line, is_unclaimed, piece_to_read, pieces, reading, third_check}
+use Rattle.bridge.specs.Bursts.{Piece, card_read, in_line, is_unclaimed, piece_to_read, pieces, reading, third_check}
 use Rattle.bridge.specs.Calls.{burst_outcome, read_outcome}
 use Rattle.bridge.specs.Faults.{fault_line, fault_number}
 use Rattle.bridge.specs.Pieces.{PieceReply, after_piece, no_window, outcome_by_read, outcome_claimed, read_ended, words_dismissed, words_moved, words_stored}
-use Rattle.bridge.specs.Runs.{all_moved, answer_of_read, buffer_filled, ends, run}
+use Rattle.bridge.specs.Runs.{all_moved, answer_of_read, buffer_filled, run}
 use Rattle.bridge.specs.State.{State}
 use Rattle.bridge.specs.Windows.{claim}
 use Rattle.bridge.proofs.BurstRuns.{GoesOn, Progress, finish, first_held, held_outcome, piece_at, start, step, stop, stop_unheld, stopped, unheld_outcome}

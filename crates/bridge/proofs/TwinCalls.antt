@@ -1,5 +1,5 @@
 -- Lists of calls, in two runs at once.
-use Rattle.std.proofs.Common.{◌≡◌, ℕ, zero, suc, ◌*◌, ◌/◌, ◌<◌, ◌≤◌, Bool, true, false, cond, eqb, List, [], ◌∷◌, length, get_or, take, replicate, sym, refl, ap, ◌∙◌, subst, ap₂, ⊎_elim, arith}
+use Rattle.std.proofs.Common.{◌≡◌, ℕ, zero, suc, ◌*◌, ◌/◌, ◌≤◌, Bool, true, false, cond, eqb, List, ◌∷◌, length, get_or, take, replicate, sym, refl, ap, ◌∙◌, subst, ap₂, ⊎_elim, arith}
 use Rattle.std.proofs.lemmas.Bool.{both_ways, cases_Bool, cond_both, cond-false, ne_eqb}
 use Rattle.std.proofs.lemmas.Bool.Decides.{nat_tests}
 use Rattle.std.specs.List.{AllByRecursion as All}
@@ -8,7 +8,7 @@ use Rattle.memory.specs.LinesAt.{merged_full}
 use Rattle.bridge.specs.Calls.{Call, Request, card, control_after, decode, is_burst, lines_after, load, log_clear, log_read, performed, processor, register_read, register_write, store}
 use Rattle.bridge.specs.Isolation.{AllAlike, Alike, CarriesALine, Hidden, Isolated, IsolatedRuns, Isolation, Protected, ProtectedThroughout, SameBurst, hidden_stores, more_calls, no_calls, replaced, same_call, stored_by, stored_by_all}
 use Rattle.bridge.specs.LookAside.{zero_row}
-use Rattle.bridge.specs.Pages.{Closed, Held, NamedByEntry, NamedByRow, Open, PlainlyReached, line_page}
+use Rattle.bridge.specs.Pages.{Closed, Held, NamedByEntry, NamedByRow, PlainlyReached, line_page}
 use Rattle.bridge.specs.Processor.{no_line}
 use Rattle.bridge.specs.Registers.{window, zero_registers, zero_window}
 use Rattle.bridge.specs.State.{State, new_state}

@@ -1,5 +1,5 @@
 -- A card write, piece by piece: what it counts, and its answer.
-use Rattle.std.proofs.Common.{◌≡◌, ℕ, zero, suc, ◌+◌, ◌-◌, ◌*◌, ◌<◌, ◌≤◌, Bool, true, false, cond, eqb, ltb, ◌⊎◌, List, [], ◌∷◌, ◌++◌, length, take, drop, is_ok, Some, None, Ok, Err, Result, sym, refl, ap, ◌∙◌, subst, ⊎_elim, add-zero, add_assoc, zero-add, arith, eq-eqb}
+use Rattle.std.proofs.Common.{◌≡◌, ℕ, zero, suc, ◌+◌, ◌-◌, ◌*◌, ◌<◌, ◌≤◌, Bool, true, false, cond, eqb, ltb, List, [], ◌∷◌, ◌++◌, length, take, drop, is_ok, Some, None, Ok, Err, Result, sym, refl, ap, ◌∙◌, subst, ⊎_elim, add-zero, add_assoc, zero-add, arith, eq-eqb}
 use Rattle.std.proofs.lemmas.List.{append-nil, drop-take, take-take}
 use Rattle.std.proofs.lemmas.Bool.{cond-false, cond-true, ne_eqb, or_parts, or_from}
 use Rattle.std.specs.List.{AllByRecursion as All}
@@ -11,13 +11,13 @@ use Rattle.bridge.specs.declared.faults.BurstFault.{BurstFault}
 use Rattle.bridge.specs.declared.log.FaultLog.{FaultLog}
 use Rattle.bridge.specs.declared.look_aside.LookAside.{LookAside}
 use Rattle.bridge.specs.BurstAnswers.{counts_of, tallied}
-use Rattle.bridge.specs.Bursts.{Burst, Job, Piece, card_write, in_line, is_unclaimed, piece_to_write, pieces, third_check, wide_enable, writing}
+use Rattle.bridge.specs.Bursts.{Piece, card_write, in_line, is_unclaimed, piece_to_write, third_check, wide_enable, writing}
 use Rattle.bridge.specs.Calls.{burst_outcome, write_outcome}
 use Rattle.bridge.specs.Pieces.{Edit, PieceOutcome, PieceReply, after_piece, no_window, outcome_by_write, outcome_claimed, read_ended, words_dismissed, words_moved, words_stored}
-use Rattle.bridge.specs.Runs.{Counts, answer_of_write, counted, ends, met_no_window, run}
+use Rattle.bridge.specs.Runs.{Counts, answer_of_write, counted, ends, met_no_window}
 use Rattle.bridge.specs.State.{State}
 use Rattle.bridge.specs.Windows.{claim}
-use Rattle.bridge.proofs.BurstRuns.{GoesOn, Progress, finish, held_outcome, piece_at, start, step, stop_unheld, stopped, unheld_outcome}
+use Rattle.bridge.proofs.BurstRuns.{GoesOn, Progress, finish, held_outcome, piece_at, start, step, stop_unheld, unheld_outcome}
 use Rattle.bridge.proofs.LineBytes.{wide_drop}
 use Rattle.bridge.proofs.ReadBursts.{part, part_length}
 

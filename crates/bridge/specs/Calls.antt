@@ -1,5 +1,5 @@
 -- The nine calls, seven of the processor and two of the cards: what each answers and what it leaves.
-use Rattle.std.specs.Prelude.{ℕ, Bool, true, false, cond, List, [], Some, None, Option, Result}
+use Rattle.std.specs.Prelude.{ℕ, Bool, true, false, List, [], Some, None, Option, Result}
 use Rattle.memory.specs.Answers.{Answer, success, refusal}
 use Rattle.memory.specs.Content.{Lines}
 use Rattle.bridge.specs.declared.bursts.BurstRefusal.{BurstRefusal}

@@ -2,7 +2,7 @@
 use Rattle.std.specs.Prelude.{◌≡◌, ℕ, suc, ◌*◌, ◌<◌, ◌≤◌, Bool, true, false, cond, List, [], ◌∷◌, length, take, ◌==◌, slice_index_or}
 use Rattle.memory.specs.Content.{Content, Lawful, Lines, absent, good, spoiled}
 use Rattle.std.specs.List.{AllByRecursion as All}
-use Rattle.bridge.specs.Calls.{Call, Outcome, Request, card, decode, is_burst, load, log_clear, log_read, performed, processor, register_read, register_write, store}
+use Rattle.bridge.specs.Calls.{Call, Outcome, card, decode, is_burst, load, log_clear, log_read, performed, processor, register_read, register_write, store}
 use Rattle.bridge.specs.Pages.{Closed, InUse, line_page, page_of}
 use Rattle.bridge.specs.State.{State, new_state}
 

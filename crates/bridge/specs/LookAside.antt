@@ -1,5 +1,5 @@
 -- The look-aside rows: which row answers for a PCI page, and how a row is filled.
-use Rattle.std.specs.Prelude.{ℕ, ◌+◌, ◌%◌, Bool, true, false, ◌&&◌, List, replicate, Some, None, Option, ◌==◌, slice_index_or, slice_set}
+use Rattle.std.specs.Prelude.{ℕ, ◌+◌, ◌%◌, Bool, true, false, ◌&&◌, replicate, Some, None, Option, ◌==◌, slice_index_or, slice_set}
 use Rattle.std.proofs.Common.{lit<}
 use Rattle.memory.specs.Rows.{first_index}
 use Rattle.std.proofs.lemmas.Nat.{mod_below}

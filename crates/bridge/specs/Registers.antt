@@ -1,5 +1,5 @@
 -- The register map: which numbers name a register, what a read gives and what a write keeps.
-use Rattle.std.specs.Prelude.{ℕ, ◌+◌, ◌-◌, ◌*◌, ◌^◌, Bool, true, false, cond, List, [], ◌∷◌, Some, None, Option, ◌==◌}
+use Rattle.std.specs.Prelude.{ℕ, ◌+◌, ◌-◌, ◌*◌, ◌^◌, Bool, true, false, cond, [], ◌∷◌, Some, None, Option, ◌==◌}
 use Rattle.memory.specs.Answers.{Answer, Cause, bare, success, refusal}
 use Rattle.bridge.specs.declared.look_aside.LookAsideRow.{LookAsideRow}
 use Rattle.bridge.specs.declared.look_aside.LookAside.{LookAside}

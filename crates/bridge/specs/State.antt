@@ -1,5 +1,4 @@
 -- The bridge and its memory as one value.
-use Rattle.std.specs.Prelude.{ℕ}
 use Rattle.memory.specs.Content.{Lines}
 use Rattle.bridge.specs.declared.Bridge.{Bridge}
 use Rattle.bridge.specs.declared.look_aside.LookAside.{LookAside}

@@ -1,5 +1,5 @@
 -- Windows: which PCI addresses one holds, and where they lead.
-use Rattle.std.specs.Prelude.{ℕ, ◌+◌, ◌-◌, ◌*◌, ◌^◌, Bool, true, false, cond, ◌&&◌, Some, None, Option, ◌==◌, bit_and, bit_or, bit_xor}
+use Rattle.std.specs.Prelude.{ℕ, ◌+◌, ◌-◌, ◌*◌, ◌^◌, Bool, cond, ◌&&◌, Some, None, Option, ◌==◌, bit_and, bit_or, bit_xor}
 use Rattle.memory.specs.Content.{bit}
 use Rattle.bridge.specs.declared.registers.Window.{Window}
 use Rattle.bridge.specs.declared.registers.Registers.{Registers}

@@ -1,5 +1,6 @@
 // The bridge between PCI cards and memory, over any kind of memory: registers, windows, look-aside rows, fault log.
 #![tactic(auto)]
+
 pub mod bursts;
 pub mod calls;
 pub mod decode;

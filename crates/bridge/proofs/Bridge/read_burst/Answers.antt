@@ -1,4 +1,4 @@
-use Rattle.std.proofs.Common.{sym, ◌∙◌, arith}
+use Rattle.std.proofs.Common.{sym, arith}
 use Rattle.bridge.proofs.ReadBursts.{begin, complete, faulted, go_on, no_window_next}
 use Rattle.bridge.proofs.Bridge.read_burst.Goals as goal
 

@@ -1,6 +1,5 @@
-use Rattle.std.proofs.Common.{arith}
 use Rattle.bridge.specs.State.{state_of}
-use Rattle.bridge.proofs.StepRuns.{begin, finish, go_on}
+use Rattle.bridge.proofs.StepRuns.{finish, go_on}
 use Rattle.bridge.proofs.Bridge.run.Goals as goal
 
 pub loop-step-preserved : goal.loop-step-preserved

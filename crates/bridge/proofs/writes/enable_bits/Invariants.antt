@@ -1,4 +1,4 @@
-use Rattle.std.proofs.Common.{◌≡◌, ◌≤◌, length, drop}
+use Rattle.std.proofs.Common.{◌≡◌, drop}
 use Rattle.bridge.specs.Longwords.{enable_bits}
 use Rattle.bridge.proofs.writes.enable_bits.Given as goal
 
