@@ -1,16 +1,16 @@
 -- The addresses bit by bit.
-use Rattle.std.proofs.Common.{◌≡◌, ℕ, zero, suc, ◌+◌, ◌-◌, ◌*◌, ◌/◌, ◌%◌, ◌^◌, ◌<◌, ◌≤◌, Bool, true, false, cond, not, ◌&&◌, ◌||◌, eqb, ltb, leb, ◌⊎◌, sym, refl, ap, ◌∙◌, subst, ap₂, inl, inr, ⊎_elim, arith, pow_mono}
-use lib.Bits.{and_le_l, and_le_r, bit_and, bit_or, bit_xor, or_lt}
+use Rattle.std.proofs.Common.{◌≡◌, ℕ, zero, suc, ◌+◌, ◌-◌, ◌*◌, ◌/◌, ◌%◌, ◌^◌, ◌<◌, ◌≤◌, Bool, true, false, cond, not, ◌&&◌, ◌||◌, eqb, ltb, leb, sym, refl, ap, ◌∙◌, subst, ap₂, ⊎_elim, arith}
+use lib.Bits.{and_le_l, and_le_r, bit_and, bit_xor, or_lt}
 use Rattle.std.proofs.lemmas.Nat.{pow-add, pow_below, pow_pos}
-use Rattle.std.proofs.lemmas.Bool.{and_from, and_parts, cases_Bool, cases_lt, cases_order, cond_both, cond-false, cond-true, eq-eqb, eqb-true, le-leb, leb-false, leb-true, lt-ltb, ltb-true, ne_eqb, both_ways}
+use Rattle.std.proofs.lemmas.Bool.{and_from, and_parts, cases_lt, cases_order, cond_both, eq-eqb, eqb-true, le-leb, leb-false, leb-true, lt-ltb, ltb-true, ne_eqb, both_ways}
 use Rattle.std.proofs.lemmas.Bool.Decides.{nat_tests}
 use Rattle.memory.specs.Content.{bit}
 use Rattle.bridge.specs.declared.registers.Registers.{Registers}
 use Rattle.bridge.specs.declared.registers.Window.{Window}
-use Rattle.bridge_laws.specs.AddressBits.{PageBits, AddressBits, Agrees, Configuration0Bits, Configuration1Bits, DenseMemoryBits, EntryBits, HoldsByBits, LaneBits, PlainBits, SparseIoBits, SparseMemoryBits, TargetBaseBits}
+use Rattle.bridge_laws.specs.AddressBits.{PageBits, AddressBits, Agrees, Configuration0Bits, Configuration1Bits, DenseMemoryBits, EntryBits, LaneBits, PlainBits, SparseIoBits, SparseMemoryBits, TargetBaseBits}
 use Rattle.bridge.specs.Bits.{bits}
-use Rattle.bridge.specs.Processor.{configuration_0_address, configuration_1_address, device_bit, first_lane, lane_count, sparse_io_address, sparse_lanes, sparse_memory_address}
-use Rattle.bridge.specs.Windows.{enabled, entry_address, holds, mixed, plain_address, target_base}
+use Rattle.bridge.specs.Processor.{configuration_0_address, device_bit, first_lane, lane_count, sparse_memory_address}
+use Rattle.bridge.specs.Windows.{enabled, holds, mixed, target_base}
 use Rattle.bridge_laws.proofs.BitFacts.{bit_of_and, bit_beyond, bit_complement, bit_field, bit_high, bit_low, bit_of_zero, bit_of_or, bit_of_xor, bit_zero, bit_half, differs, field_below}
 
 -- a field at its place i of the number that it was taken from

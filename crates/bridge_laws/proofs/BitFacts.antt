@@ -1,5 +1,5 @@
 -- Single bits of sums of fields, of bit fields, and of the bitwise operations.
-use Rattle.std.proofs.Common.{◌≡◌, ℕ, zero, suc, ◌+◌, ◌-◌, ◌*◌, ◌/◌, ◌%◌, ◌^◌, ◌<◌, ◌≤◌, Bool, true, false, cond, not, ◌&&◌, ◌||◌, eqb, ◌⊎◌, sym, refl, ap, ◌∙◌, subst, ap₂, inl, inr, ⊎_elim, div-one, arith, pow_mono}
+use Rattle.std.proofs.Common.{◌≡◌, ℕ, zero, suc, ◌+◌, ◌-◌, ◌*◌, ◌/◌, ◌%◌, ◌^◌, ◌<◌, ◌≤◌, Bool, true, false, not, ◌&&◌, ◌||◌, eqb, ◌⊎◌, sym, refl, ap, ◌∙◌, inl, inr, ⊎_elim, div-one, arith, pow_mono}
 use native.Mathlib.Nat.{div-eq_of_lt, zero-div}
 use lib.Bits.{and_mod, and_shr, bit_and, bit_or, bit_xor, block_half, block_odd, or_mod, or_shr, xor_mod, xor_shr}
 use Rattle.std.proofs.lemmas.Nat.{mod_below, pow-add, pow_pos, shr_high, shr-shr, shr_split}

@@ -1,13 +1,12 @@
 -- A burst's pieces have its longwords, each once and in order, and each piece lies in one line.
-use Rattle.std.proofs.Common.{◌≡◌, ℕ, zero, suc, ◌+◌, ◌-◌, ◌*◌, ◌/◌, ◌%◌, ◌^◌, ◌<◌, ◌≤◌, Bool, true, false, cond, eqb, ◌⊎◌, List, [], ◌∷◌, ◌++◌, map, length, get_or, take, drop, sym, refl, ap, ◌∙◌, subst, ap₂, inl, inr, ⊎_elim, arith}
+use Rattle.std.proofs.Common.{◌≡◌, ℕ, zero, suc, ◌+◌, ◌-◌, ◌*◌, ◌/◌, ◌%◌, ◌<◌, ◌≤◌, eqb, ◌⊎◌, List, [], ◌∷◌, ◌++◌, map, length, take, drop, sym, refl, ap, ◌∙◌, subst, ap₂, inl, inr, ⊎_elim, arith}
 use Rattle.std.proofs.ByRecursion.{All-get_or}
 use Rattle.std.proofs.lemmas.List.{drop-take, take-append-drop, take-take}
 use Rattle.std.proofs.lemmas.Bool.{cases_eq, cond-false, cond-true, eq-eqb, ne_eqb}
 use Rattle.std.proofs.lemmas.Bool.Decides.{nat_tests}
 use Rattle.std.specs.List.{range_with_len, AllWithin, flat_map, AllByRecursion as All}
-use Rattle.bridge.specs.Bits.{bits}
-use Rattle.bridge.specs.Bursts.{Burst, Job, Piece, card_read, card_write, cut, in_line, job_front, job_rest, misaligned, out_of_bounds, pieces, reading, writing}
-use Rattle.bridge_laws.specs.Cuts.{Cut, CutAtLines, InOneLine, addresses, job_enables, job_words, piece_addresses}
+use Rattle.bridge.specs.Bursts.{Job, Piece, card_read, card_write, cut, in_line, job_front, job_rest, reading, writing}
+use Rattle.bridge_laws.specs.Cuts.{CutAtLines, InOneLine, addresses, job_enables, job_words, piece_addresses}
 
 -- so many addresses, and then some more
 shifted : (pci n a b : ℕ) → map (λ k. pci + 4 * k) (range_with_len (a + b) n) ≡ map (λ k. pci + 4 * a + 4 * k) (range_with_len b n)

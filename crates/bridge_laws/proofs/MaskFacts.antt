@@ -1,8 +1,8 @@
 -- The mask and the bytes of a card's longwords in a line.
-use Rattle.std.proofs.Common.{◌≡◌, ℕ, zero, suc, ◌+◌, ◌-◌, ◌*◌, ◌/◌, ◌%◌, ◌^◌, ◌<◌, ◌≤◌, Bool, true, false, cond, ◌&&◌, ◌||◌, eqb, ltb, leb, ◌⊎◌, List, [], ◌∷◌, ◌++◌, length, get_or, sym, refl, ap, ◌∙◌, subst, ap₂, inl, inr, ⊎_elim, arith, pow_mono}
+use Rattle.std.proofs.Common.{◌≡◌, ℕ, suc, ◌+◌, ◌-◌, ◌*◌, ◌/◌, ◌%◌, ◌^◌, ◌<◌, ◌≤◌, Bool, true, false, cond, ◌&&◌, eqb, ltb, List, [], ◌∷◌, length, get_or, sym, refl, ap, ◌∙◌, ⊎_elim, arith, pow_mono}
 use Rattle.std.proofs.lemmas.Nat.{pow-add, pow_pos, shl_below}
 use Rattle.std.proofs.lemmas.List.FromFn.{get_or-map-range_with_len, length-map-range_with_len}
-use Rattle.std.proofs.lemmas.Bool.{and_left, and_parts, cases_Bool, cases_lt, cond-false, cond-true, eqb-false, eqb-true, le-leb, le-ltb, leb-true, lt-leb, ltb-false, or_parts}
+use Rattle.std.proofs.lemmas.Bool.{and_left, and_parts, cases_lt, cond-false, eqb-false, eqb-true, le-leb, le-ltb, leb-true, lt-leb, ltb-false, or_parts}
 use Rattle.memory.specs.Content.{Content, absent, all_ones, bit, good, merged, overwritten, spoiled}
 use Rattle.memory.specs.LinesAt.{length_merged, ones_set}
 use Rattle.bridge.specs.Bursts.{wide_enable}

@@ -1,5 +1,5 @@
 -- A card read, longword by longword.
-use Rattle.std.proofs.Common.{◌≡◌, ℕ, zero, suc, ◌+◌, ◌-◌, ◌*◌, ◌/◌, ◌%◌, ◌^◌, ◌<◌, ◌≤◌, Bool, true, false, cond, eqb, ltb, ◌⊎◌, List, [], ◌∷◌, ◌++◌, length, get_or, drop, Some, None, Option, sym, refl, ap, ◌∙◌, subst, ap₂, inl, inr, ⊎_elim, arith}
+use Rattle.std.proofs.Common.{◌≡◌, ℕ, zero, suc, ◌+◌, ◌-◌, ◌*◌, ◌/◌, ◌%◌, ◌<◌, ◌≤◌, Bool, true, false, ltb, List, [], ◌∷◌, ◌++◌, length, get_or, None, sym, refl, ap, ◌∙◌, subst, ⊎_elim, arith}
 use Rattle.std.proofs.lemmas.List.FromFn.{get_or-map-range_with_len, length-map-range_with_len}
 use Rattle.std.proofs.lemmas.List.{get_or_append_left, get_or-append_right, get_or-drop, length-append, length-drop}
 use Rattle.std.proofs.lemmas.Bool.{cases_eq, cases_lt, cond-false, cond-true, le-ltb, lt-ltb}
@@ -13,7 +13,7 @@ use Rattle.bridge.specs.Bits.{bits}
 use Rattle.bridge.specs.Bursts.{Burst, Piece, burst_start, card_read, cut, failed_check, in_line, is_unclaimed, misaligned, out_of_bounds, pieces, reading}
 use Rattle.bridge.specs.Calls.{burst_outcome}
 use Rattle.bridge.specs.Longwords.{longword_at, longwords}
-use Rattle.bridge.specs.Pieces.{Edit, PieceOutcome, PieceReply, after_piece, edited, no_edit, no_window, outcome_at_content, outcome_at_place, piece_outcome, read_ended, words_dismissed, words_moved, words_stored}
+use Rattle.bridge.specs.Pieces.{Edit, PieceOutcome, PieceReply, after_piece, edited, no_edit, no_window, outcome_at_content, outcome_at_place, piece_outcome, read_ended, words_moved}
 use Rattle.bridge_laws.specs.Reads.{FaultAt, ReadAt, ReadEndsWith, ReadLaw, Reads, at_absent, at_fault, at_no_window, at_spoiled, at_table, complete, serving}
 use Rattle.bridge.specs.Runs.{Run, all_moved, ends, answer_of_read, run, run_piece, run_unless}
 use Rattle.bridge.specs.State.{State}

@@ -1,23 +1,23 @@
 -- When a burst is refused with 1, 2, 3 or 4.
-use Rattle.std.proofs.Common.{◌≡◌, ℕ, zero, suc, ◌+◌, ◌-◌, ◌*◌, ◌/◌, ◌%◌, ◌^◌, ◌<◌, ◌≤◌, Bool, true, false, cond, not, ltb, ◌⊎◌, List, [], ◌∷◌, length, get_or, take, Some, None, sum_by, Option, sym, refl, ap, ◌∙◌, subst, inl, inr, ⊎_elim, arith}
+use Rattle.std.proofs.Common.{◌≡◌, ℕ, zero, suc, ◌+◌, ◌*◌, ◌%◌, ◌<◌, ◌≤◌, Bool, true, false, ltb, List, [], ◌∷◌, length, get_or, take, Some, None, sum_by, Option, sym, refl, ap, ◌∙◌, subst, ⊎_elim, arith}
 use Rattle.std.proofs.lemmas.List.Sums.{sum_by-cons}
 use Rattle.std.proofs.lemmas.Bool.{both_ways, cases_Bool, cases_eq, cond-false, cond-true, lt-ltb}
 use Rattle.std.proofs.lemmas.Bool.Decides.{nat_tests}
 use Rattle.std.specs.List.{AllByRecursion as All}
 use Rattle.memory.specs.Answers.{Answer, success, refusal}
 use Rattle.bridge.specs.declared.log.Direction.{Direction}
-use Rattle.bridge.specs.Bursts.{Burst, Job, Piece, burst_start, card_read, card_write, cut, failed_check, in_line, is_unclaimed, misaligned, out_of_bounds, pieces, reading, writing}
-use Rattle.bridge.specs.Calls.{Outcome, burst_outcome, card, performed}
+use Rattle.bridge.specs.Bursts.{Burst, Job, Piece, burst_start, card_read, card_write, cut, failed_check, in_line, is_unclaimed, misaligned, out_of_bounds, reading, writing}
+use Rattle.bridge.specs.Calls.{burst_outcome, card, performed}
 use Rattle.bridge_laws.specs.Cuts.{InOneLine}
 use Rattle.bridge.specs.Pieces.{PieceReply, no_window, read_ended, words_dismissed, words_moved, words_stored}
 use Rattle.bridge_laws.specs.Reads.{FaultAt, ReadEndsWith, at_absent, at_fault, at_no_window, at_spoiled, at_table, complete, serving}
 use Rattle.bridge_laws.proofs.BoundsFacts.{alignment, bounds}
-use Rattle.bridge_laws.specs.Refusals.{ChecksLaw, Refusals, RefusedExactly, SomeBefore4}
-use Rattle.bridge.specs.Runs.{Counts, burst_answer, lent_buffer, answer_of_read, run, answer_of_write}
+use Rattle.bridge_laws.specs.Refusals.{ChecksLaw, Refusals}
+use Rattle.bridge.specs.Runs.{Counts, burst_answer, answer_of_read, answer_of_write}
 use Rattle.bridge.specs.State.{State}
-use Rattle.bridge_laws.specs.Translated.{FirstHolder, Translated, by_entry, by_none, by_plain_window, by_row, not_valid, table_absent, table_spoiled}
-use Rattle.bridge.specs.Translation.{Located, Place, located, place_of, table_fault, target, unclaimed}
-use Rattle.bridge.specs.Windows.{claim, holds, mapped}
+use Rattle.bridge_laws.specs.Translated.{Translated, by_entry, by_none, by_plain_window, by_row, not_valid, table_absent, table_spoiled}
+use Rattle.bridge.specs.Translation.{Located, Place, place_of, table_fault, target, unclaimed}
+use Rattle.bridge.specs.Windows.{claim, holds}
 use Rattle.bridge_laws.specs.Writes as W
 use Rattle.bridge_laws.proofs.CutFacts.{cut_in_line, cut_more, cut_none, in_line_some}
 use Rattle.bridge_laws.proofs.ReadFacts.{checks_passed, reads}

@@ -1,9 +1,8 @@
 -- The look-aside rows over a run of calls.
-use Rattle.std.proofs.Common.{◌≡◌, ℕ, zero, suc, ◌/◌, Bool, true, false, cond, eqb, ◌⊎◌, List, [], ◌∷◌, get_or, set, replicate, Some, None, Option, sym, refl, ap, ◌∙◌, subst, inl, inr, ⊎_elim, arith}
+use Rattle.std.proofs.Common.{◌≡◌, ℕ, zero, suc, ◌/◌, Bool, true, false, ◌⊎◌, List, [], ◌∷◌, get_or, set, replicate, Some, None, Option, sym, refl, ap, ◌∙◌, subst, inl, inr, ⊎_elim, arith}
 use Rattle.std.proofs.lemmas.List.{get_or-set_other, get_or-set_same}
 use Rattle.std.proofs.lemmas.Bool.{false≢true}
 use Rattle.std.proofs.lemmas.Bool.Decides.{nat_tests}
-use Rattle.std.specs.List.{AllByRecursion as All}
 use Rattle.memory.specs.Content.{Content, Lines, absent, good, spoiled}
 use Rattle.bridge.specs.declared.log.FaultLog.{FaultLog}
 use Rattle.bridge.specs.declared.look_aside.LookAside.{LookAside}
@@ -12,13 +11,13 @@ use Rattle.bridge.specs.declared.registers.Registers.{Registers}
 use Rattle.bridge.specs.Bursts.{Burst, Job, Piece, failed_check, pieces, reading, writing}
 use Rattle.bridge.specs.Calls.{Call, burst_outcome, card, control_written, decode, load, log_clear, log_read, performed, processor, register_read, register_write, store}
 use Rattle.bridge.specs.Isolation.{after}
-use Rattle.bridge.specs.LookAside.{cached_page, filled, row, zero_row, zero_rows}
+use Rattle.bridge.specs.LookAside.{row, zero_row, zero_rows}
 use Rattle.bridge.specs.Pieces.{PieceOutcome, after_piece, outcome_at_content, outcome_at_place, piece_outcome}
-use Rattle.bridge.specs.Registers.{Register, haxr0, haxr1, haxr2, invalidate_all, pci_base, pci_mask, register_named, row_data, row_tag, rows_written, translated_base, window}
-use Rattle.bridge_laws.specs.RowRuns.{FilledRow, LeavesRows, RowsFill, RowsInRuns, RowsInvalidate, RowsLast, RowsServe, RowsValid}
+use Rattle.bridge.specs.Registers.{Register, haxr0, haxr1, haxr2, invalidate_all, pci_base, pci_mask, register_named, row_data, row_tag, translated_base, window}
+use Rattle.bridge_laws.specs.RowRuns.{FilledRow, LeavesRows, RowsFill, RowsInRuns, RowsInvalidate, RowsLast, RowsServe}
 use Rattle.bridge.specs.Runs.{Run, ends, run, run_unless}
 use Rattle.bridge.specs.State.{Control, State, new_state}
-use Rattle.bridge.specs.Translation.{Entry, Place, entry_fault, entry_of, located, located_by_claim, located_by_entry, located_by_row, located_by_window, names, pci_page, table_fault, target, unclaimed}
+use Rattle.bridge.specs.Translation.{Entry, Place, entry_fault, entry_of, located, located_by_claim, located_by_entry, located_by_row, names, table_fault, target, unclaimed}
 use Rattle.bridge.specs.Windows.{claim, entry_address}
 
 -- each row of t is that of s, or one that was filled

@@ -1,5 +1,5 @@
 -- The longwords of one line lead to one line.
-use Rattle.std.proofs.Common.{◌≡◌, ℕ, ◌+◌, ◌-◌, ◌*◌, ◌/◌, ◌%◌, ◌^◌, ◌<◌, ◌≤◌, Bool, true, false, cond, ◌&&◌, eqb, Some, None, Option, sym, refl, ap, ◌∙◌, subst, ap₂, arith}
+use Rattle.std.proofs.Common.{◌≡◌, ℕ, ◌+◌, ◌-◌, ◌*◌, ◌/◌, ◌%◌, ◌^◌, ◌<◌, Bool, true, false, cond, ◌&&◌, eqb, Some, None, Option, refl, ap, ◌∙◌, subst, ap₂, arith}
 use lib.Bits.{bit_and, bit_xor}
 use Rattle.memory.specs.Content.{Lines}
 use Rattle.bridge.specs.declared.look_aside.LookAside.{LookAside}
@@ -9,7 +9,7 @@ use Rattle.bridge.specs.Bits.{bits, bits_kept}
 use Rattle.bridge.specs.LookAside.{cached_page}
 use Rattle.bridge.specs.Registers.{window}
 use Rattle.bridge.specs.State.{State}
-use Rattle.bridge.specs.Translation.{Entry, Place, entry_fault, entry_of, located, located_by_claim, located_by_entry, located_by_row, located_by_window, names, page_address, pci_page, place_of, table_fault, target, unclaimed}
+use Rattle.bridge.specs.Translation.{Entry, Place, entry_fault, entry_of, located_by_claim, located_by_entry, located_by_row, located_by_window, names, page_address, pci_page, place_of, table_fault, target, unclaimed}
 use Rattle.bridge.specs.Windows.{claim, enabled, entry_address, holds, mapped, mixed, plain_address, target_base}
 
 -- a place some longwords on

@@ -1,16 +1,13 @@
 -- The definition of translation meets the relation.
-use Rattle.std.proofs.Common.{◌≡◌, ℕ, zero, suc, ◌+◌, ◌/◌, ◌<◌, ◌≤◌, Bool, true, false, cond, List, [], ◌∷◌, length, get_or, Some, None, Option, sym, refl, ap, ◌∙◌, subst, ⊎_elim, arith}
-use Rattle.std.proofs.lemmas.Bool.{both_ways, cases_Bool, cond-false, cond-true}
-use Rattle.std.specs.List.{HoldsAt, AllWithin}
-use Rattle.memory.specs.Content.{Content, Lines, absent, bit, good, spoiled}
+use Rattle.std.proofs.Common.{◌≡◌, ℕ, ◌/◌, Bool, true, false, Some, None, Option, sym, refl, subst, ⊎_elim}
+use Rattle.std.proofs.lemmas.Bool.{cases_Bool, cond-false, cond-true}
+use Rattle.memory.specs.Content.{Content, absent, bit, good, spoiled}
 use Rattle.memory.specs.Searches.{first_finds}
-use Rattle.bridge.specs.declared.look_aside.LookAside.{LookAside}
-use Rattle.bridge.specs.Bits.{bits}
-use Rattle.bridge.specs.LookAside.{cached_page, page_of_row, row, row_answers}
+use Rattle.bridge.specs.LookAside.{page_of_row, row_answers}
 use Rattle.bridge.specs.Registers.{window}
 use Rattle.bridge.specs.State.{State}
 use Rattle.bridge_laws.specs.Translated.{FirstHolder, Searched, Translated, Translates, by_entry, by_none, by_plain_window, by_row, entry_at, not_valid, table_absent, table_spoiled, window_1, window_2}
-use Rattle.bridge.specs.Translation.{Located, entry_named, entry_number, entry_of, located, located_by_claim, located_by_entry, located_by_row, located_by_window, pci_page}
+use Rattle.bridge.specs.Translation.{entry_number, entry_of, located_by_claim, located_by_entry, located_by_row, located_by_window, pci_page}
 use Rattle.bridge.specs.Windows.{holds, mapped}
 
 module _ (s : State) (pci number : ℕ) (holder : FirstHolder s.control.registers pci number) where

@@ -1,24 +1,20 @@
 -- A card write, line by line.
-use Rattle.std.proofs.Common.{◌≡◌, ℕ, zero, suc, ◌+◌, ◌-◌, ◌*◌, ◌/◌, ◌%◌, ◌^◌, ◌<◌, ◌≤◌, Bool, true, false, cond, not, ◌||◌, eqb, ltb, ◌⊎◌, List, [], ◌∷◌, ◌++◌, length, get_or, take, drop, sum_by, count_by, sym, refl, ap, ◌∙◌, subst, ap₂, inl, inr, ⊎_elim, arith}
+use Rattle.std.proofs.Common.{◌≡◌, ℕ, zero, suc, ◌+◌, ◌-◌, ◌*◌, ◌/◌, ◌%◌, ◌<◌, ◌≤◌, Bool, true, false, cond, not, ◌||◌, eqb, ltb, List, [], ◌∷◌, ◌++◌, length, get_or, take, drop, sum_by, count_by, sym, refl, ap, ◌∙◌, subst, ⊎_elim, arith}
 use Rattle.std.proofs.lemmas.List.{length-take}
 use Rattle.std.proofs.lemmas.List.Sums.{sum_by-cons}
 use Rattle.std.proofs.lemmas.Bool.{cases_eq, cond-false, cond-true, eq-eqb, ne_eqb, or_from, or_parts}
 use Rattle.std.proofs.lemmas.Bool.Decides.{nat_tests}
-use Rattle.memory.specs.Answers.{Answer}
-use Rattle.memory.specs.Content.{Content, Lines, absent, good, overwritten, spoiled, written}
+use Rattle.memory.specs.Content.{Content, absent, good, spoiled}
 use Rattle.bridge.specs.declared.log.Direction.TheVariants.{Write}
-use Rattle.bridge.specs.declared.log.FaultLog.{FaultLog}
 use Rattle.bridge.specs.declared.look_aside.LookAside.{LookAside}
-use Rattle.bridge.specs.Bits.{bits}
-use Rattle.bridge.specs.Bursts.{Burst, Piece, card_write, cut, in_line, out_of_bounds, pieces, wide_enable, writing, wrong_count}
+use Rattle.bridge.specs.Bursts.{Burst, Piece, card_write, cut, in_line, pieces, wide_enable, writing, wrong_count}
 use Rattle.bridge.specs.Calls.{burst_outcome}
-use Rattle.bridge.specs.Longwords.{line_bytes, line_mask}
-use Rattle.bridge.specs.Pieces.{PieceOutcome, PieceReply, after_piece, no_window, outcome_at_content, outcome_at_place, outcome_faulted, outcome_written, piece_outcome, words_dismissed, words_stored}
+use Rattle.bridge.specs.Pieces.{PieceOutcome, PieceReply, after_piece, no_window, outcome_at_content, outcome_at_place, outcome_written, piece_outcome, words_dismissed, words_stored}
 use Rattle.bridge_laws.specs.Reads.{FaultAt, at_absent, at_table}
-use Rattle.bridge.specs.Runs.{Counts, Run, count_values, counted, ends, met_no_window, run, run_piece, run_unless, answer_of_write}
+use Rattle.bridge.specs.Runs.{Counts, Run, counted, ends, met_no_window, run, run_piece, run_unless, answer_of_write}
 use Rattle.bridge.specs.State.{State}
-use Rattle.bridge.specs.Translation.{Place, located, place_of, table_fault, target, unclaimed}
-use Rattle.bridge_laws.specs.Writes.{LineAfter, LineServed, Stored, WriteEndsWith, WriteLaw, Writes, at_no_window, before_piece, complete, counts, nth_piece, was_dismissed, was_stored}
+use Rattle.bridge.specs.Translation.{Place, place_of, table_fault, target, unclaimed}
+use Rattle.bridge_laws.specs.Writes.{LineAfter, LineServed, Stored, WriteEndsWith, WriteLaw, Writes, at_no_window, before_piece, complete, nth_piece, was_dismissed, was_stored}
 use Rattle.bridge_laws.proofs.CutFacts.{cut_more, cut_none, in_line_some, take_split}
 use Rattle.bridge_laws.proofs.MaskFacts.{line_after}
 use Rattle.bridge_laws.proofs.ReadFacts.{checks_passed}

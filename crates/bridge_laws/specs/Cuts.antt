@@ -1,5 +1,5 @@
 -- The cut of a burst, as a relation to its longwords.
-use Rattle.std.specs.Prelude.{◌≡◌, ℕ, ◌+◌, ◌-◌, ◌*◌, ◌/◌, ◌%◌, ◌<◌, ◌≤◌, false, List, [], ◌∷◌, map, length, take}
+use Rattle.std.specs.Prelude.{◌≡◌, ℕ, ◌+◌, ◌-◌, ◌*◌, ◌/◌, ◌%◌, ◌<◌, false, List, [], map, length, take}
 use Rattle.std.specs.List.{range_with_len, AllWithin, flat_map, AllByRecursion as All}
 use Rattle.bridge.specs.Bursts.{Burst, Job, Piece, card_read, card_write, misaligned, out_of_bounds, pieces, reading, writing}
 

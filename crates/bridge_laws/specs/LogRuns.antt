@@ -1,10 +1,10 @@
 -- What the log says after a run of calls: the first fault since the last clear, and whether others came after it.
-use Rattle.std.specs.Prelude.{◌≡◌, ℕ, ◌/◌, Bool, true, false, cond, List, [], ◌∷◌, ◌++◌, Some, None, Option}
+use Rattle.std.specs.Prelude.{◌≡◌, ℕ, ◌/◌, true, false, cond, List, [], ◌∷◌, ◌++◌, Some, None, Option}
 use Rattle.memory.specs.Content.{Content, Lines, absent, good, spoiled}
 use Rattle.bridge.specs.declared.log.FaultLog.{FaultLog}
 use Rattle.bridge.specs.declared.log.FaultRecord.{FaultRecord}
 use Rattle.bridge.specs.Bursts.{Job, Piece, direction, failed_check, pieces, reading, writing}
-use Rattle.bridge.specs.Calls.{Call, Request, card, decode, load, log_clear, log_read, performed, processor, register_read, register_write, store}
+use Rattle.bridge.specs.Calls.{Call, card, decode, load, log_clear, log_read, performed, processor, register_read, register_write, store}
 use Rattle.bridge.specs.Isolation.{after}
 use Rattle.bridge.specs.Log.{empty_log}
 use Rattle.bridge.specs.Pieces.{after_piece, piece_outcome}

@@ -1,11 +1,11 @@
 -- How long a look-aside row serves, and what can be in one.
-use Rattle.std.specs.Prelude.{◌≡◌, ℕ, ◌+◌, ◌/◌, ◌<◌, Bool, true, false, ◌⊎◌, List, [], ◌∷◌, length, Some, ◌≢◌}
+use Rattle.std.specs.Prelude.{◌≡◌, ℕ, ◌+◌, ◌/◌, ◌<◌, true, false, ◌⊎◌, List, length, Some, ◌≢◌}
 use Rattle.memory.specs.Content.{Lines}
 use Rattle.std.specs.List.{AllByRecursion as All}
 use Rattle.bridge.specs.declared.look_aside.LookAside.{LookAside}
 use Rattle.bridge.specs.declared.look_aside.LookAsideRow.{LookAsideRow}
 use Rattle.bridge.specs.declared.registers.Registers.{Registers}
-use Rattle.bridge.specs.Calls.{Call, Request, card, decode, load, log_clear, log_read, performed, processor, register_read, register_write, store}
+use Rattle.bridge.specs.Calls.{Call, card, decode, load, log_clear, log_read, performed, processor, register_read, register_write, store}
 use Rattle.bridge.specs.Isolation.{after}
 use Rattle.bridge.specs.LookAside.{cached_page, filled, row}
 use Rattle.bridge.specs.State.{State, new_state}
