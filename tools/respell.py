@@ -79,7 +79,9 @@ def respell(text, table):
         w = m.group(0)
         return table.get(w, w)
 
-    return WORD.sub(put, text)
+    # strings stay
+    parts = re.split(r'("[^"\n]*")', text)
+    return "".join(p if p.startswith('"') else WORD.sub(put, p) for p in parts)
 
 
 def is_ghost(line):

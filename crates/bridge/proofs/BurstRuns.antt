@@ -2,7 +2,7 @@
 use Rattle.std.proofs.Common.{◌≡◌, ℕ, zero, suc, ◌+◌, ◌-◌, ◌*◌, ◌<◌, ◌≤◌, Bool, true, false, cond, eqb, ◌⊎◌, List, [], ◌∷◌, ◌++◌, Some, None, sym, refl, ap, ◌∙◌, subst, inl, inr, ⊎_elim, arith}
 use Rattle.std.proofs.lemmas.Bool.{cond-false, ne_eqb}
 use Rattle.std.proofs.lemmas.List.{append_assoc, append-nil, drop-drop}
-use Rattle.std.specs.List.{AllByRecursion as All}
+use Rattle.std.specs.List.{AllByRecursion}
 use Rattle.bridge.specs.Bursts.{Burst, Job, Piece, cut, in_line, is_unclaimed, job_front, job_rest, pieces, reading, third_check, writing}
 use Rattle.bridge.specs.Calls.{burst_outcome, burst_served}
 use Rattle.bridge.specs.Pieces.{PieceOutcome, PieceReply, after_piece, no_window, outcome_claimed, outcome_located, piece_outcome}
@@ -73,7 +73,7 @@ not_claimed s p e = ap (λ c. outcome_located s.control.log s.lines p (located_b
 abbrev pub GoesOn : PieceReply → Type 0
 GoesOn r = ends r ≡ false
 
-all_more : (rs : List PieceReply) (r : PieceReply) → All GoesOn rs → GoesOn r → All GoesOn (rs ++ r ∷ [])
+all_more : (rs : List PieceReply) (r : PieceReply) → AllByRecursion GoesOn rs → GoesOn r → AllByRecursion GoesOn (rs ++ r ∷ [])
 all_more [] r h k = (k, tt)
 all_more (x ∷ rs) r h k = (h.0, all_more rs r h.1 k)
 
@@ -88,7 +88,7 @@ pub record Progress (s₀ : State) (pci count : ℕ) (job : Job) (s : State) (do
   pub enough : count - done ≤ turns
   pub served : run s₀ (cut count pci count job) ≡ resumed replies (run s (cut turns (pci + 4 * done) (count - done) (job_rest done job)))
   pub registers : s.control.registers ≡ s₀.control.registers
-  pub go_on : All GoesOn replies
+  pub go_on : AllByRecursion GoesOn replies
   pub begun : Begun s₀ pci s done
 
 pub start : (s : State) (pci count : ℕ) (job : Job) → Progress s pci count job s 0 []

@@ -4,7 +4,7 @@ use borrow.Rule.Slice.PartMut.{put_mid}
 use Rattle.std.proofs.lemmas.List.{append_assoc, append-nil, drop-drop, length-drop, length-take, length-take-le, take-append-drop}
 use Rattle.std.proofs.lemmas.Slice.{take-put_mid, drop-put_mid}
 use Rattle.std.proofs.lemmas.Bool.{cond-false, cond-true, ne_eqb}
-use Rattle.std.specs.List.{AllByRecursion as All}
+use Rattle.std.specs.List.{AllByRecursion}
 use Rattle.memory.specs.Answers.{Answer, refusal}
 use Rattle.bridge.specs.declared.bursts.BurstRefusal.{BurstRefusal}
 use Rattle.bridge.specs.declared.bursts.BurstRefusal.TheVariants.{Ended, Unclaimed}
@@ -33,7 +33,7 @@ moved_append (words_dismissed count ∷ a) b = moved_append a b
 moved_append (no_window ∷ a) b = moved_append a b
 
 -- the first reply that ends a read decides its answer
-ended_by : (m : ℕ) (a b : List PieceReply) → All GoesOn a → answer_of_read m (a ++ b) ≡ answer_of_read m b
+ended_by : (m : ℕ) (a b : List PieceReply) → AllByRecursion GoesOn a → answer_of_read m (a ++ b) ≡ answer_of_read m b
 ended_by m [] b h = refl
 ended_by m (words_moved words ∷ a) b h = ended_by m a b h.1
 ended_by m (read_ended number pci line ∷ a) b h = absurd (let z : true ≡ false = h.0 in let y : ◌≡◌ {A = ℕ} 0 1 = cc in omega arith)

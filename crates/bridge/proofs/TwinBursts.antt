@@ -2,7 +2,7 @@
 use Rattle.std.proofs.Common.{◌≡◌, ℕ, zero, suc, ◌+◌, ◌*◌, ◌^◌, ◌<◌, ◌≤◌, Bool, true, false, eqb, List, [], ◌∷◌, Some, None, Option, sym, refl, ap, subst, arith}
 use Rattle.std.proofs.lemmas.Bool.{cond_both, eqb-false}
 use Rattle.std.proofs.lemmas.Bool.Decides.{nat_tests}
-use Rattle.std.specs.List.{AllByRecursion as All}
+use Rattle.std.specs.List.{AllByRecursion}
 use Rattle.bridge.specs.Bursts.{Burst, Job, Piece, card_read, card_write, cut, failed_check, out_of_bounds, pieces}
 use Rattle.bridge.specs.Calls.{Outcome, burst_outcome, card, performed}
 use Rattle.bridge.specs.Isolation.{Hidden, Protected, SameBurst}
@@ -15,12 +15,12 @@ use Rattle.bridge.proofs.PieceSteps.{Twin, Within, at_twin, edit_same, protected
 abbrev BeginsBelow : Piece → Type 0
 BeginsBelow p = p.pci < 2 ^ 32
 
-cut_below : (turns pci left : ℕ) (job : Job) → pci + 4 * left ≤ 2 ^ 32 → All BeginsBelow (cut turns pci left job)
+cut_below : (turns pci left : ℕ) (job : Job) → pci + 4 * left ≤ 2 ^ 32 → AllByRecursion BeginsBelow (cut turns pci left job)
 cut_below zero pci left job h = tt
 cut_below (suc turns) pci left job h =
-    cond_both (eqb left 0) _ _ (All BeginsBelow) (λ _. tt) (λ e. let some = eqb-false left 0 e in (omega arith, cut_below turns _ _ _ (omega arith)))
+    cond_both (eqb left 0) _ _ (AllByRecursion BeginsBelow) (λ _. tt) (λ e. let some = eqb-false left 0 e in (omega arith, cut_below turns _ _ _ (omega arith)))
 
-pieces_below : (b : Burst) → out_of_bounds b ≡ false → All BeginsBelow (pieces b)
+pieces_below : (b : Burst) → out_of_bounds b ≡ false → AllByRecursion BeginsBelow (pieces b)
 pieces_below (card_read pci count buffer) h = let fits : pci + 4 * count ≤ 2 ^ 32 = grind (arith, nat_tests) in cut_below count pci count _ fits
 pieces_below (card_write pci count words enables) h = let fits : pci + 4 * count ≤ 2 ^ 32 = grind (arith, nat_tests) in cut_below count pci count _ fits
 
@@ -42,7 +42,7 @@ module _ {hidden : Hidden} where
   run_both s t o true r q w twin later = record { within = w; twin = twin; replies = refl }
   run_both s t o false r q w twin later = record { within = within_trans w later.within; twin = later.twin; replies = ap (λ l. o.reply ∷ l) later.replies }
 
-  runs : (ps : List Piece) → All BeginsBelow ps → (s t : State) → Protected hidden s → Twin hidden s t → TwinRuns hidden s (run s ps) (run t ps)
+  runs : (ps : List Piece) → AllByRecursion BeginsBelow ps → (s t : State) → Protected hidden s → Twin hidden s t → TwinRuns hidden s (run s ps) (run t ps)
   runs [] b s t k twin = record { within = within_refl s; twin = twin; replies = refl }
   runs (p ∷ ps) b s t k twin =
       at_twin (λ z. TwinRuns hidden s (run s (p ∷ ps)) (run z (p ∷ ps))) twin

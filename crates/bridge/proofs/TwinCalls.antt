@@ -2,7 +2,7 @@
 use Rattle.std.proofs.Common.{◌≡◌, ℕ, zero, suc, ◌*◌, ◌/◌, ◌≤◌, Bool, true, false, cond, eqb, List, ◌∷◌, length, get_or, take, replicate, sym, refl, ap, ◌∙◌, subst, ap₂, ⊎_elim, arith}
 use Rattle.std.proofs.lemmas.Bool.{both_ways, cases_Bool, cond_both, cond-false, ne_eqb}
 use Rattle.std.proofs.lemmas.Bool.Decides.{nat_tests}
-use Rattle.std.specs.List.{AllByRecursion as All}
+use Rattle.std.specs.List.{AllByRecursion}
 use Rattle.memory.specs.Content.{Bounded, Content, Lawful, Lines, absent, all_ones, good, overwritten, spoiled, written}
 use Rattle.memory.specs.LinesAt.{merged_full}
 use Rattle.bridge.specs.Calls.{Call, Request, card, control_after, decode, is_burst, lines_after, load, log_clear, log_read, performed, processor, register_read, register_write, store}
@@ -113,7 +113,7 @@ first_call {cs = cs} {ds = ds} s t control left right both later = record {
 }
 
 isolated : {hidden : Hidden} {cs ds : List Call} → AllAlike hidden cs ds → (s t : State) → Protected hidden s → Twin hidden s t → Bounded s.lines → Bounded t.lines
-    → All CarriesALine cs → All CarriesALine ds → ProtectedThroughout hidden s cs → Isolated hidden s t cs ds
+    → AllByRecursion CarriesALine cs → AllByRecursion CarriesALine ds → ProtectedThroughout hidden s cs → Isolated hidden s t cs ds
 isolated no_calls s t k twin bs bt zs zt premise = record {
   same_bursts = λ n h. absurd (omega arith);
   same_control = elim [ zero ↦ λ _. twin.control | suc n ↦ λ _. twin.control ];

@@ -2,7 +2,7 @@
 use Rattle.std.proofs.Common.{◌≡◌, ℕ, zero, suc, ◌+◌, ◌-◌, ◌*◌, ◌<◌, ◌≤◌, Bool, true, false, cond, eqb, ltb, List, [], ◌∷◌, ◌++◌, length, take, drop, is_ok, Some, None, Ok, Err, Result, sym, refl, ap, ◌∙◌, subst, ⊎_elim, add-zero, add_assoc, zero-add, arith, eq-eqb}
 use Rattle.std.proofs.lemmas.List.{append-nil, drop-take, take-take}
 use Rattle.std.proofs.lemmas.Bool.{cond-false, cond-true, ne_eqb, or_parts, or_from}
-use Rattle.std.specs.List.{AllByRecursion as All}
+use Rattle.std.specs.List.{AllByRecursion}
 use Rattle.bridge.specs.declared.bursts.BurstRefusal.{BurstRefusal}
 use Rattle.bridge.specs.declared.bursts.BurstRefusal.TheVariants.{Ended, Unclaimed}
 use Rattle.bridge.specs.declared.bursts.WriteCounts.{WriteCounts}
@@ -48,7 +48,7 @@ counted_append (words_dismissed count ∷ a) b = ap (λ (c : Counts). record { t
 counted_append (no_window ∷ a) b = counted_append a b
 
 -- only the last reply can say that no window held a longword
-met_by : (a b : List PieceReply) → All GoesOn a → met_no_window (a ++ b) ≡ met_no_window b
+met_by : (a b : List PieceReply) → AllByRecursion GoesOn a → met_no_window (a ++ b) ≡ met_no_window b
 met_by [] b h = refl
 met_by (words_moved words ∷ a) b h = met_by a b h.1
 met_by (read_ended number pci line ∷ a) b h = met_by a b h.1

@@ -1,7 +1,7 @@
 -- What the cards cannot learn, alter or open.
 use Rattle.std.specs.Prelude.{◌≡◌, ℕ, suc, ◌*◌, ◌<◌, ◌≤◌, Bool, true, false, cond, List, [], ◌∷◌, length, take, ◌==◌, slice_index_or}
 use Rattle.memory.specs.Content.{Content, Lawful, Lines, absent, good, spoiled}
-use Rattle.std.specs.List.{AllByRecursion as All}
+use Rattle.std.specs.List.{AllByRecursion}
 use Rattle.bridge.specs.Calls.{Call, Outcome, card, decode, is_burst, load, log_clear, log_read, performed, processor, register_read, register_write, store}
 use Rattle.bridge.specs.Pages.{Closed, InUse, line_page, page_of}
 use Rattle.bridge.specs.State.{State, new_state}
@@ -113,8 +113,8 @@ IsolatedRuns s t =
     (hidden : Hidden) (cs ds : List Call)
     → EqualOutside hidden s.lines t.lines
     → AllAlike hidden cs ds
-    → All CarriesALine cs
-    → All CarriesALine ds
+    → AllByRecursion CarriesALine cs
+    → AllByRecursion CarriesALine ds
     → ProtectedThroughout hidden s cs
     → Isolated hidden s t cs ds
 

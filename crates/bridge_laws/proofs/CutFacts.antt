@@ -4,7 +4,7 @@ use Rattle.std.proofs.ByRecursion.{All-get_or}
 use Rattle.std.proofs.lemmas.List.{drop-take, take-append-drop, take-take}
 use Rattle.std.proofs.lemmas.Bool.{cases_eq, cond-false, cond-true, eq-eqb, ne_eqb}
 use Rattle.std.proofs.lemmas.Bool.Decides.{nat_tests}
-use Rattle.std.specs.List.{range_with_len, AllWithin, flat_map, AllByRecursion as All}
+use Rattle.std.specs.List.{range_with_len, AllWithin, flat_map, AllByRecursion}
 use Rattle.bridge.specs.Bursts.{Job, Piece, card_read, card_write, cut, in_line, job_front, job_rest, reading, writing}
 use Rattle.bridge_laws.specs.Cuts.{CutAtLines, InOneLine, addresses, job_enables, job_words, piece_addresses}
 
@@ -80,11 +80,11 @@ cut_reads f e (suc turns) pci left =
 piece_in_line : (pci left : ℕ) → pci % 4 ≡ 0 → (left ≡ 0 → ⊥) → (pci + 4 * in_line pci left - 1) / 32 ≡ pci / 32
 piece_in_line pci left a h = omega arith
 
-pub cut_in_line : (turns pci left : ℕ) (job : Job) → pci % 4 ≡ 0 → All InOneLine (cut turns pci left job)
+pub cut_in_line : (turns pci left : ℕ) (job : Job) → pci % 4 ≡ 0 → AllByRecursion InOneLine (cut turns pci left job)
 cut_in_line zero pci left job a = tt
 cut_in_line (suc turns) pci left job a =
-    ⊎_elim (λ e. cut_none (All InOneLine) turns pci left job e tt)
-    (λ ne. cut_more (All InOneLine) turns pci left job ne
+    ⊎_elim (λ e. cut_none (AllByRecursion InOneLine) turns pci left job e tt)
+    (λ ne. cut_more (AllByRecursion InOneLine) turns pci left job ne
     (record { some = (in_line_some pci left ne).0; line = piece_in_line pci left a ne }, cut_in_line turns (pci + 4 * in_line pci left) (left - in_line pci left) _ (omega arith)))
     (cases_eq left 0)
 
@@ -92,16 +92,16 @@ cut_in_line (suc turns) pci left job a =
 next_at_multiple : (pci left : ℕ) → pci % 4 ≡ 0 → (left - in_line pci left ≡ 0) ⊎ ((pci + 4 * in_line pci left) % 32 ≡ 0)
 next_at_multiple pci left a = grind arith
 
-cut_multiples : (turns pci left : ℕ) (job : Job) → pci % 4 ≡ 0 → (left ≡ 0) ⊎ (pci % 32 ≡ 0) → All (λ (p : Piece). p.pci % 32 ≡ 0) (cut turns pci left job)
+cut_multiples : (turns pci left : ℕ) (job : Job) → pci % 4 ≡ 0 → (left ≡ 0) ⊎ (pci % 32 ≡ 0) → AllByRecursion (λ (p : Piece). p.pci % 32 ≡ 0) (cut turns pci left job)
 cut_multiples zero pci left job a h = tt
-cut_multiples (suc turns) pci left job a (inl e) = cut_none (All (λ (p : Piece). p.pci % 32 ≡ 0)) turns pci left job e tt
+cut_multiples (suc turns) pci left job a (inl e) = cut_none (AllByRecursion (λ (p : Piece). p.pci % 32 ≡ 0)) turns pci left job e tt
 cut_multiples (suc turns) pci left job a (inr m) =
-    ⊎_elim (λ e. cut_none (All (λ (p : Piece). p.pci % 32 ≡ 0)) turns pci left job e tt)
-    (λ ne. cut_more (All (λ (p : Piece). p.pci % 32 ≡ 0)) turns pci left job ne
+    ⊎_elim (λ e. cut_none (AllByRecursion (λ (p : Piece). p.pci % 32 ≡ 0)) turns pci left job e tt)
+    (λ ne. cut_more (AllByRecursion (λ (p : Piece). p.pci % 32 ≡ 0)) turns pci left job ne
     (m, cut_multiples turns (pci + 4 * in_line pci left) (left - in_line pci left) _ (omega arith) (next_at_multiple pci left a)))
     (cases_eq left 0)
 
-rest_every : (P : Piece → Type 0) (p : Piece) (ps : List Piece) → All P ps → AllWithin P (p ∷ ps) 1 (length (p ∷ ps))
+rest_every : (P : Piece → Type 0) (p : Piece) (ps : List Piece) → AllByRecursion P ps → AllWithin P (p ∷ ps) 1 (length (p ∷ ps))
 rest_every P p ps h zero d l u = absurd (omega arith)
 rest_every P p ps h (suc k) d l u = All-get_or P ps k d (omega arith) h
 

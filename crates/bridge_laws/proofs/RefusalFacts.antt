@@ -3,7 +3,7 @@ use Rattle.std.proofs.Common.{◌≡◌, ℕ, zero, suc, ◌+◌, ◌*◌, ◌%�
 use Rattle.std.proofs.lemmas.List.Sums.{sum_by-cons}
 use Rattle.std.proofs.lemmas.Bool.{both_ways, cases_Bool, cases_eq, cond-false, cond-true, lt-ltb}
 use Rattle.std.proofs.lemmas.Bool.Decides.{nat_tests}
-use Rattle.std.specs.List.{AllByRecursion as All}
+use Rattle.std.specs.List.{AllByRecursion}
 use Rattle.memory.specs.Answers.{Answer, success, refusal}
 use Rattle.bridge.specs.declared.log.Direction.{Direction}
 use Rattle.bridge.specs.Bursts.{Burst, Job, Piece, burst_start, card_read, card_write, cut, failed_check, in_line, is_unclaimed, misaligned, out_of_bounds, reading, writing}
@@ -170,7 +170,7 @@ first_piece (suc turns) pci left job =
     (λ ne. cut_more (λ ps. 0 < length ps → (W.nth_piece ps 0).pci ≡ pci) turns pci left job ne (λ h. refl))
     (cases_eq left 0)
 
-first_taken : (ps : List Piece) (x : Bool) (l : List Bool) → All InOneLine ps → length (x ∷ l) < length ps → 0 < sum_by (λ (p : Piece). p.count) (take (length (x ∷ l)) ps)
+first_taken : (ps : List Piece) (x : Bool) (l : List Bool) → AllByRecursion InOneLine ps → length (x ∷ l) < length ps → 0 < sum_by (λ (p : Piece). p.count) (take (length (x ∷ l)) ps)
 first_taken [] x l h k = absurd (omega arith)
 first_taken (p ∷ ps) x l h k = let a = sum_by-cons (λ (q : Piece). q.count) p (take (length l) ps) in let b = h.0.some in omega arith
 

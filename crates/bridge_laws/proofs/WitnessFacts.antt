@@ -5,7 +5,7 @@ use lib.Bits.{and_zero_r, bit_or}
 use Rattle.std.proofs.lemmas.Nat.{mod_below}
 use Rattle.std.proofs.lemmas.Bool.{and_parts, both_ways, cond_both, cond-false, eqb-true, false≢true, le-ltb, ne_eqb, true≢false}
 use Rattle.std.proofs.lemmas.Bool.Decides.{Decides-below_and}
-use Rattle.std.specs.List.{AllByRecursion as All}
+use Rattle.std.specs.List.{AllByRecursion}
 use Rattle.memory.specs.Content.{Has32Bytes, Lawful, Lines, merged}
 use Rattle.bridge.specs.declared.registers.Registers.{Registers}
 use Rattle.bridge.specs.declared.registers.Window.{Window}
@@ -162,7 +162,7 @@ alike =
     (more_calls (same_call _)
     (more_calls (same_call _) no_calls))))))))
 
-carries : (byte : ℕ) → All CarriesALine (calls_storing byte)
+carries : (byte : ℕ) → AllByRecursion CarriesALine (calls_storing byte)
 carries byte = (tt, (tt, (refl, (tt, (tt, (refl, (tt, (tt, (tt, tt)))))))))
 
 pub premise_met : PremiseMet

@@ -1,6 +1,6 @@
 -- The cut of a burst, as a relation to its longwords.
 use Rattle.std.specs.Prelude.{◌≡◌, ℕ, ◌+◌, ◌-◌, ◌*◌, ◌/◌, ◌%◌, ◌<◌, false, List, [], map, length, take}
-use Rattle.std.specs.List.{range_with_len, AllWithin, flat_map, AllByRecursion as All}
+use Rattle.std.specs.List.{range_with_len, AllWithin, flat_map, AllByRecursion}
 use Rattle.bridge.specs.Bursts.{Burst, Job, Piece, card_read, card_write, misaligned, out_of_bounds, pieces, reading, writing}
 
 -- the PCI addresses of so many longwords from an address on
@@ -42,7 +42,7 @@ pub record Cut (b : Burst) : Type 0 where
   pub in_order : flat_map piece_addresses (pieces b) ≡ burst_addresses b
   pub words : flat_map (λ (p : Piece). job_words p.job) (pieces b) ≡ burst_words b
   pub enables : flat_map (λ (p : Piece). job_enables p.job) (pieces b) ≡ burst_enables b
-  pub in_line : All InOneLine (pieces b)
+  pub in_line : AllByRecursion InOneLine (pieces b)
   pub at_multiples : AllWithin (λ (p : Piece). p.pci % 32 ≡ 0) (pieces b) 1 (length (pieces b))
 
 abbrev pub CutAtLines : Type 0

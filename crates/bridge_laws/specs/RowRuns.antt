@@ -1,7 +1,7 @@
 -- How long a look-aside row serves, and what can be in one.
 use Rattle.std.specs.Prelude.{◌≡◌, ℕ, ◌+◌, ◌/◌, ◌<◌, true, false, ◌⊎◌, List, length, Some, ◌≢◌}
 use Rattle.memory.specs.Content.{Lines}
-use Rattle.std.specs.List.{AllByRecursion as All}
+use Rattle.std.specs.List.{AllByRecursion}
 use Rattle.bridge.specs.declared.look_aside.LookAside.{LookAside}
 use Rattle.bridge.specs.declared.look_aside.LookAsideRow.{LookAsideRow}
 use Rattle.bridge.specs.declared.registers.Registers.{Registers}
@@ -37,7 +37,7 @@ LeavesRows (card b) = Unit {0}
 
 -- a row stays as it is until register 32 is written or it is refilled, whatever else is called
 abbrev pub RowsLast : Type 0
-RowsLast = (s : State) (cs : List Call) → All LeavesRows cs → (i : ℕ) → (row (after s cs).control.look_aside i ≡ row s.control.look_aside i) ⊎ FilledRow (row (after s cs).control.look_aside i)
+RowsLast = (s : State) (cs : List Call) → AllByRecursion LeavesRows cs → (i : ℕ) → (row (after s cs).control.look_aside i ≡ row s.control.look_aside i) ⊎ FilledRow (row (after s cs).control.look_aside i)
 
 -- while the first row that answers for a PCI page is the same, it leads there, whatever the memory, and so the table, holds
 abbrev pub RowsServe : Type 0

@@ -2,7 +2,7 @@
 use Rattle.std.specs.Prelude.{◌≡◌, ℕ, true, false, cond, List, [], ◌∷◌, replicate, ◌==◌, nat_lt}
 use Rattle.memory.specs.Answers.{refusal, success}
 use Rattle.memory.specs.Content.{Lawful, Lines, absent, good}
-use Rattle.std.specs.List.{AllByRecursion as All}
+use Rattle.std.specs.List.{AllByRecursion}
 use Rattle.bridge.specs.Bursts.{card_read, card_write}
 use Rattle.bridge.specs.Calls.{Call, card, processor, register_write, store}
 use Rattle.bridge.specs.Isolation.{AllAlike, CarriesALine, Hidden, Isolated, ProtectedThroughout, after, before, nth_call, outcome}
@@ -52,8 +52,8 @@ pub record PremiseMet : Type 0 where
   pub lawful : Lawful zero_lines
   -- the lists are equal but for the bytes of a store into the hidden page, and each store carries 32 bytes
   pub alike : AllAlike page_2 left_calls right_calls
-  pub left_carries : All CarriesALine left_calls
-  pub right_carries : All CarriesALine right_calls
+  pub left_carries : AllByRecursion CarriesALine left_calls
+  pub right_carries : AllByRecursion CarriesALine right_calls
   -- that store differs
   pub differ : nth_call left_calls 5 ≡ nth_call right_calls 5 → ⊥
   -- the premise: after each call of the processor the hidden page is protected

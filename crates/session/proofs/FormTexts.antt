@@ -3,7 +3,7 @@ use Rattle.std.proofs.Common.{◌≡◌, ℕ, ◌^◌, ◌<◌, ◌≤◌, true,
 use Rattle.std.proofs.lemmas.Bool.Decides.{nat_tests}
 use Rattle.std.specs.Str.Parse.{AllDigits, digits_value}
 use Rattle.std.specs.Char.{digit_value}
-use Rattle.std.specs.List.{AllByRecursion as All}
+use Rattle.std.specs.List.{AllByRecursion}
 use Rattle.session.specs.declared.forms.Name.{Name}
 use Rattle.session.specs.declared.forms.Name.TheVariants as N
 use Rattle.session.specs.FormLines.{BothBelow, EachSpelled, NumbersFit, number_token, one_token, pair_tokens, payload_tokens, two_tokens}
@@ -43,17 +43,17 @@ name_valid N.LogClear = (lit< tt, (refl, (refl, (refl, (refl, (refl, (refl, (ref
 name_valid N.CardRead = (lit< tt, (refl, (refl, (refl, (refl, (refl, (refl, (refl, (refl, (refl, tt))))))))))
 name_valid N.CardWrite = (lit< tt, (refl, (refl, (refl, (refl, (refl, (refl, (refl, (refl, (refl, (refl, tt)))))))))))
 
-one_valid : (n : ℕ) → n < 2 ^ 64 → All Valid (one_token n)
+one_valid : (n : ℕ) → n < 2 ^ 64 → AllByRecursion Valid (one_token n)
 one_valid n lt = (number_valid n lt, (tt, tt))
 
-two_valid : (p : ℕ × ℕ) → BothBelow 64 64 p → All Valid (two_tokens p)
+two_valid : (p : ℕ × ℕ) → BothBelow 64 64 p → AllByRecursion Valid (two_tokens p)
 two_valid p lt = (number_valid p.0 lt.0, (number_valid p.1 lt.1, (tt, tt)))
 
-pairs_valid : (pairs : List (ℕ × ℕ)) → All (BothBelow 32 64) pairs → All Valid (pair_tokens pairs)
+pairs_valid : (pairs : List (ℕ × ℕ)) → AllByRecursion (BothBelow 32 64) pairs → AllByRecursion Valid (pair_tokens pairs)
 pairs_valid [] h = (tt, tt)
 pairs_valid (p ∷ pairs) h = (tt, (number_valid p.0 (wide p.0 h.0.0), (number_valid p.1 h.0.1, (tt, pairs_valid pairs h.1))))
 
-tokens_valid : (v : Name) (x : Payload v) → NumbersFit v x → All Valid (payload_tokens v x)
+tokens_valid : (v : Name) (x : Payload v) → NumbersFit v x → AllByRecursion Valid (payload_tokens v x)
 tokens_valid N.CpuStore x h = two_valid x h
 tokens_valid N.CpuLoad x h = one_valid x h
 tokens_valid N.Mark x h = one_valid x h
@@ -65,7 +65,7 @@ tokens_valid N.LogClear x h = (tt, tt)
 tokens_valid N.CardRead x h = two_valid x (wide x.0 h.0, h.1)
 tokens_valid N.CardWrite x h = (number_valid x.0 (wide x.0 h.0), pairs_valid x.1 h.1)
 
-pairs_meant : (pairs : List (ℕ × ℕ)) → All (BothBelow 32 64) pairs → Pairs (pair_tokens pairs) pairs
+pairs_meant : (pairs : List (ℕ × ℕ)) → AllByRecursion (BothBelow 32 64) pairs → Pairs (pair_tokens pairs) pairs
 pairs_meant [] h = refl
 pairs_meant (p ∷ pairs) h = (pair_tokens pairs, (hex p.0, hex p.1, refl, reads_32 p.0 h.0.0, reads_back p.1 h.0.1), pairs_meant pairs h.1)
 

@@ -2,10 +2,10 @@
 use Rattle.std.proofs.Common.{◌≡◌, ℕ, suc, ◌+◌, ◌<◌, ◌≤◌, Bool, true, false, cond, eqb, ltb, leb, ◌⊎◌, List, [], ◌∷◌, ◌++◌, map, length, sym, refl, ap, ◌∙◌, subst, inl, inr, ⊎_elim, arith}
 use Rattle.std.proofs.lemmas.List.{append_assoc, append-nil, length-append}
 use Rattle.std.proofs.lemmas.Bool.{cases_eq, cases_lt, cond-false, cond-true, eq-eqb, le-leb, le-ltb, lt-leb, lt-ltb, ne_eqb}
-use Rattle.std.specs.List.{AllByRecursion as All}
+use Rattle.std.specs.List.{AllByRecursion}
 use Rattle.session.specs.InputLines.{Cut, CutAtEnds, Inside, LinesOf, Step, cut_of, ended_lines, fed, kept, last_line, line_with_end, line_without_end, lines_from, no_line, taken, too_long}
 
-all_more : (line : List ℕ) (b : ℕ) → All Inside line → Inside b → All Inside (line ++ b ∷ [])
+all_more : (line : List ℕ) (b : ℕ) → AllByRecursion Inside line → Inside b → AllByRecursion Inside (line ++ b ∷ [])
 all_more [] b h k = (k, tt)
 all_more (x ∷ line) b h k = (h.0, all_more line b h.1 k)
 
@@ -34,7 +34,7 @@ last_is b line = go (leb (length (b ∷ line)) 256)
 abbrev CutsOf : List ℕ → List ℕ → Type 0
 CutsOf line input = (lines : List (List ℕ)) × LinesOf (line ++ input) lines × (lines_from (cut_of line) input ≡ map cut_of lines)
 
-cuts : (input line : List ℕ) → All Inside line → CutsOf line input
+cuts : (input line : List ℕ) → AllByRecursion Inside line → CutsOf line input
 cuts [] [] h = ([], no_line, refl)
 cuts [] (b ∷ line) h = ((b ∷ line) ∷ [], subst (λ l. LinesOf l ((b ∷ line) ∷ [])) (sym (append-nil (b ∷ line))) (line_without_end (b ∷ line) h (omega arith)), last_is b line)
 cuts (b ∷ input) line h =

@@ -13,15 +13,15 @@ use Rattle.session.proofs.Lexing.{lexes_once}
 -- a name is known by its bytes
 abbrev named : List ℕ → Name
 named w =
-    cond (bytes_eq w (codes "cpu_store")) N.CpuStore
-    (cond (bytes_eq w (codes "cpu_load")) N.CpuLoad
+    cond (bytes_eq w (codes "cpu-store")) N.CpuStore
+    (cond (bytes_eq w (codes "cpu-load")) N.CpuLoad
     (cond (bytes_eq w (codes "mark")) N.Mark
     (cond (bytes_eq w (codes "reg-read")) N.RegRead
     (cond (bytes_eq w (codes "reg-write")) N.RegWrite
     (cond (bytes_eq w (codes "pci")) N.Pci
     (cond (bytes_eq w (codes "log")) N.Log
-    (cond (bytes_eq w (codes "log_clear")) N.LogClear
-    (cond (bytes_eq w (codes "card_read")) N.CardRead N.CardWrite))))))))
+    (cond (bytes_eq w (codes "log-clear")) N.LogClear
+    (cond (bytes_eq w (codes "card-read")) N.CardRead N.CardWrite))))))))
 
 named_back : (v : Name) → named (name_bytes v) ≡ v
 named_back N.CpuStore = refl

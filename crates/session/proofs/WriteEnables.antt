@@ -95,5 +95,6 @@ write_does s t pci pairs words enables r x reply w e a after is text =
     let same = same_write (session_state s) pci pairs words enables w e in
     record {
       text = text ∙ ap (λ y. answer_text ok_text write_labels (write_answered y)) (sym is) ∙ ap (answer_text ok_text write_labels) a ∙ ap write_text same;
+      is = λ other. absurd other;
       state = after ∙ ap (λ (o : Outcome). o.state) same;
     }

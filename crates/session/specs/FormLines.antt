@@ -1,6 +1,6 @@
 -- A line for each form: its name and its numbers in lower-case digits, one space apart.
 use Rattle.std.specs.Prelude.{ℕ, ◌^◌, ◌<◌, ◌≤◌, true, List, [], ◌∷◌, ◌++◌, length}
-use Rattle.std.specs.List.{AllByRecursion as All}
+use Rattle.std.specs.List.{AllByRecursion}
 use Rattle.session.specs.declared.forms.Name.{Name}
 use Rattle.session.specs.declared.forms.Name.TheVariants as N
 use Rattle.session.specs.Tokens.{Lexeme, opening, closing, word_of, render}
@@ -52,7 +52,7 @@ NumbersFit N.Pci x = x < 2 ^ 64
 NumbersFit N.Log x = Unit {0}
 NumbersFit N.LogClear x = Unit {0}
 NumbersFit N.CardRead x = BothBelow 32 64 x
-NumbersFit N.CardWrite x = (x.0 < 2 ^ 32) × All (BothBelow 32 64) x.1
+NumbersFit N.CardWrite x = (x.0 < 2 ^ 32) × AllByRecursion (BothBelow 32 64) x.1
 
 -- every form whose numbers fit, and whose line has at most 256 bytes, is spelled by that line
 abbrev pub EachSpelled : Type 0

@@ -15,16 +15,16 @@ use Rattle.session.specs.Hex.{Reads}
 
 -- how a name is written
 abbrev pub name_bytes : Name → List ℕ
-name_bytes N.CpuStore = codes "cpu_store"
-name_bytes N.CpuLoad = codes "cpu_load"
+name_bytes N.CpuStore = codes "cpu-store"
+name_bytes N.CpuLoad = codes "cpu-load"
 name_bytes N.Mark = codes "mark"
 name_bytes N.RegRead = codes "reg-read"
 name_bytes N.RegWrite = codes "reg-write"
 name_bytes N.Pci = codes "pci"
 name_bytes N.Log = codes "log"
-name_bytes N.LogClear = codes "log_clear"
-name_bytes N.CardRead = codes "card_read"
-name_bytes N.CardWrite = codes "card_write"
+name_bytes N.LogClear = codes "log-clear"
+name_bytes N.CardRead = codes "card-read"
+name_bytes N.CardWrite = codes "card-write"
 
 -- what a form of each name carries; a card write's pairs are longwords, each with the number that enables its bytes
 abbrev pub Payload : Name → Type 0

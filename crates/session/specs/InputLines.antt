@@ -1,6 +1,6 @@
 -- The lines of an input. The byte 0Ah ends a line and is no part of it; a last line may lack it.
 use Rattle.std.specs.Prelude.{◌≡◌, ℕ, ◌<◌, Bool, true, false, cond, List, [], ◌∷◌, ◌++◌, map, length, Some, None, vec_items, Option, ◌==◌, nat_le, nat_lt}
-use Rattle.std.specs.List.{AllByRecursion as All}
+use Rattle.std.specs.List.{AllByRecursion}
 use Rattle.session.specs.declared.input.InputLine.{InputLine}
 use Rattle.session.specs.declared.input.InputLine.TheVariants.{TooLong, Whole}
 use Rattle.session.specs.declared.input.LineCutter.{LineCutter}
@@ -12,8 +12,8 @@ Inside b = b ≡ 10 → ⊥
 -- an input and the bytes of its lines, as a relation: the lines, each with the byte that ends it, are the input
 pub data LinesOf : List ℕ → List (List ℕ) → Type 0 where
   no_line : LinesOf [] []
-  line_without_end : (line : List ℕ) → All Inside line → 0 < length line → LinesOf line (line ∷ [])
-  line_with_end : (line rest : List ℕ) (lines : List (List ℕ)) → All Inside line → LinesOf rest lines → LinesOf (line ++ 10 ∷ rest) (line ∷ lines)
+  line_without_end : (line : List ℕ) → AllByRecursion Inside line → 0 < length line → LinesOf line (line ∷ [])
+  line_with_end : (line rest : List ℕ) (lines : List (List ℕ)) → AllByRecursion Inside line → LinesOf rest lines → LinesOf (line ++ 10 ∷ rest) (line ∷ lines)
 
 -- what is kept of a line: at most 256 bytes, or that it is too long
 pub data Cut : Type 0 where

@@ -1,6 +1,6 @@
 -- The tokens of a line: how they are written, and where they stand.
 use Rattle.std.specs.Prelude.{◌≡◌, ℕ, ◌+◌, ◌<◌, Bool, true, false, cond, not, ◌&&◌, List, [], ◌∷◌, ◌++◌, map, length, ◌==◌}
-use Rattle.std.specs.List.{AllByRecursion as All}
+use Rattle.std.specs.List.{AllByRecursion}
 use Rattle.session.specs.declared.lexer.Token.{Token}
 use Rattle.session.specs.declared.lexer.Token.TheVariants.{Open, Close, Word}
 
@@ -29,7 +29,7 @@ abbrev pub word_byte : ℕ → Bool
 word_byte b = not (b == 32) && (not (b == 40) && not (b == 41))
 
 abbrev pub WordBytes : List ℕ → Type 0
-WordBytes w = All (λ b. word_byte b ≡ true) w
+WordBytes w = AllByRecursion (λ b. word_byte b ≡ true) w
 
 -- a word has one byte or more, each a byte of a word
 abbrev pub Valid : Lexeme → Type 0
@@ -67,7 +67,7 @@ render first (t ∷ ts) = gap first t ++ (spelling t ++ render (is_opening t) ts
 -- the bytes are those of these tokens, and no others
 pub record Lexes (first : Bool) (bs : List ℕ) (ts : List Lexeme) : Type 0 where
   pub bytes : bs ≡ render first ts
-  pub valid : All Valid ts
+  pub valid : AllByRecursion Valid ts
 
 -- each token's offset is where it stands, in bytes that begin at offset `at`
 abbrev pub Placed : ℕ → Bool → List Token → Type 0

@@ -1,5 +1,6 @@
 // A session: one form to a line of the input, one reply to a line of the output.
 #![tactic(auto)]
+
 mod forms;
 mod input;
 mod lexer;

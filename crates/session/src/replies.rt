@@ -51,7 +51,7 @@ fn digit_char(d: u64) -> char
 
 // The digits come highest first, so those of the quotient are written before the last one.
 fn write_hex<W: fmt::Write>(n: u64, f: &mut fmt::Formatter<W>) -> fmt::Result
-    ensures { WritesOnOk write_str_gives f.old result (hex n) f.new }
+    ensures { WritesOnOk W.write_str_gives f.old result (hex n) f.new }
 {
     if n >= 16 {
         write_hex(n / 16, f)?;
@@ -117,7 +117,7 @@ impl fmt::Display for LoggedFault {
 
 // Numbers, each behind a space.
 fn write_longwords<W: fmt::Write>(words: &[u32], f: &mut fmt::Formatter<W>) -> fmt::Result
-    ensures { WritesOnOk write_str_gives f.old result (spaced_numbers words.now) f.new }
+    ensures { WritesOnOk W.write_str_gives f.old result (spaced_numbers words.now) f.new }
 {
     for word in words {
         let word = Hex(u64::from(*word));

@@ -10,7 +10,7 @@ loop-word-preserved g c plain =
     let ns = c.args.words.now in
     let i = c.loop-word.word-index in
     let x = c.loop-word.invariant plain in
-    let y = c.in_ok-write.ensures.shows x.plain refl in
+    let y = c.in_ok-write.ensures.writes x.plain refl in
     has_written_of_eq g.W.Write.write_str_gives _ _ _ _ (ap (λ n. spaced_numbers (take i ns) ++ (32 ∷ hex n)) c.from.ensures ∙ sym (spaced_more ns i c.loop-word-test.true)) (has_written_append g.W.Write.write_str_gives _ _ _ _ _ x y)
 
 pub returns : goal.returns

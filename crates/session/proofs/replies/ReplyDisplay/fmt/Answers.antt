@@ -4,8 +4,8 @@ use Rattle.session.specs.Replies.{ok_text, reply_text}
 use Rattle.session.proofs.ReplyTexts.{longwords_text}
 use Rattle.session.proofs.replies.ReplyDisplay.fmt.Goals as goal
 
-pub returns-in_ok-write_longwords-clause-writes : goal.returns-in_ok-write_longwords-clause-writes
-returns-in_ok-write_longwords-clause-writes g c plain ok =
+pub returns-in_ok-write_longwords-in-Longwords-clause-writes : goal.returns-in_ok-write_longwords-clause-writes
+returns-in_ok-write_longwords-in-Longwords-clause-writes g c plain ok =
     let took = g.W.Write.write_str_gives in
     let x = c.in_ok-write_str.ensures.writes plain refl in
     let y = c.in_ok-write_longwords.ensures x.plain refl in
