@@ -1,16 +1,16 @@
 -- Each form that fits a line has a line that spells it.
-use Rattle.std.proofs.Common.{◌≡◌, ℕ, ◌^◌, ◌<◌, ◌≤◌, true, false, List, [], ◌∷◌, length, sym, refl, subst, arith, lit<}
+use Rattle.std.proofs.Common.{◌≡◌, ℕ, ◌^◌, ◌<◌, true, List, [], ◌∷◌, refl, subst, arith, lit<}
 use Rattle.std.proofs.lemmas.Bool.Decides.{nat_tests}
-use Rattle.std.specs.Str.Parse.{AllDigits, digits_value}
+use Rattle.std.specs.Str.Parse.{AllDigits}
 use Rattle.std.specs.Char.{digit_value}
 use Rattle.std.specs.List.{AllByRecursion}
 use Rattle.session.specs.declared.forms.Name.{Name}
 use Rattle.session.specs.declared.forms.Name.TheVariants as N
 use Rattle.session.specs.FormLines.{BothBelow, EachSpelled, NumbersFit, number_token, one_token, pair_tokens, payload_tokens, two_tokens}
-use Rattle.session.specs.Forms.{Args, One, Pairs, Payload, Two, name_bytes}
+use Rattle.session.specs.Forms.{Args, Pairs, Payload, name_bytes}
 use Rattle.session.specs.Hex.{Reads}
 use Rattle.session.specs.Replies.{hex}
-use Rattle.session.specs.Tokens.{Lexeme, Valid, WordBytes, closing, opening, word_byte, word_of}
+use Rattle.session.specs.Tokens.{Valid, WordBytes, opening, word_byte, word_of}
 use Rattle.session.proofs.HexText.{reads_back}
 
 -- a number that fits a longword reads back as one

@@ -1,9 +1,9 @@
 -- What the cutter gives for an input is what is kept of its lines.
-use Rattle.std.proofs.Common.{◌≡◌, ℕ, suc, ◌+◌, ◌<◌, ◌≤◌, Bool, true, false, cond, eqb, ltb, leb, ◌⊎◌, List, [], ◌∷◌, ◌++◌, map, length, sym, refl, ap, ◌∙◌, subst, inl, inr, ⊎_elim, arith}
+use Rattle.std.proofs.Common.{◌≡◌, ℕ, Bool, true, false, cond, eqb, leb, List, [], ◌∷◌, ◌++◌, map, length, sym, refl, ap, ◌∙◌, subst, ⊎_elim, arith}
 use Rattle.std.proofs.lemmas.List.{append_assoc, append-nil, length-append}
 use Rattle.std.proofs.lemmas.Bool.{cases_eq, cases_lt, cond-false, cond-true, eq-eqb, le-leb, le-ltb, lt-leb, lt-ltb, ne_eqb}
 use Rattle.std.specs.List.{AllByRecursion}
-use Rattle.session.specs.InputLines.{Cut, CutAtEnds, Inside, LinesOf, Step, cut_of, ended_lines, fed, kept, last_line, line_with_end, line_without_end, lines_from, no_line, taken, too_long}
+use Rattle.session.specs.InputLines.{CutAtEnds, Inside, LinesOf, Step, cut_of, ended_lines, kept, last_line, line_with_end, line_without_end, lines_from, no_line, taken, too_long}
 
 all_more : (line : List ℕ) (b : ℕ) → AllByRecursion Inside line → Inside b → AllByRecursion Inside (line ++ b ∷ [])
 all_more [] b h k = (k, tt)

@@ -1,7 +1,7 @@
 -- A quadword stored by way of its line: the load leaves the state, so the store finds it as it was.
 use Rattle.std.proofs.Common.{◌≡◌, ℕ, ◌%◌, cond, List, [], sym, ap, ◌∙◌, eq-eqb}
-use Rattle.memory.specs.Answers.{Answer, success}
-use Rattle.bridge.specs.Calls.{Outcome, performed, processor, store}
+use Rattle.memory.specs.Answers.{success}
+use Rattle.bridge.specs.Calls.{performed, processor, store}
 use Rattle.bridge.specs.State.{State}
 use Rattle.session.specs.Quadwords.{cpu_store, line_load, line_start, store_back, turned_down, with_quadword}
 

@@ -1,5 +1,5 @@
 -- Byte enables over 255 are taken as 255: a burst with an enable over 15 is refused, whichever it is.
-use Rattle.std.proofs.Common.{◌≡◌, ℕ, suc, ◌≤◌, min, Bool, true, false, cond, ◌||◌, ltb, List, [], ◌∷◌, map, length, take, Some, None, Result, sym, refl, ap, ◌∙◌, arith, ltb-false, le-ltb, lt-ltb}
+use Rattle.std.proofs.Common.{◌≡◌, ℕ, suc, ◌≤◌, min, Bool, true, false, cond, ◌||◌, ltb, List, [], ◌∷◌, map, length, take, Some, Result, sym, refl, ap, ◌∙◌, arith, ltb-false}
 use Rattle.std.proofs.lemmas.List.{take_all}
 use Rattle.std.proofs.lemmas.Bool.Decides.{nat_tests}
 use Rattle.memory.specs.Answers.{refusal}
@@ -7,7 +7,7 @@ use Rattle.bridge.specs.declared.bursts.BurstRefusal.{BurstRefusal}
 use Rattle.bridge.specs.declared.bursts.WriteCounts.{WriteCounts}
 use Rattle.bridge.specs.declared.bursts.WriteEnd.{WriteEnd}
 use Rattle.bridge.specs.BurstAnswers.{write_answered}
-use Rattle.bridge.specs.Bursts.{card_write, misaligned, out_of_bounds, third_check, wide_enable, wrong_count}
+use Rattle.bridge.specs.Bursts.{card_write, misaligned, third_check, wide_enable, wrong_count}
 use Rattle.bridge.specs.Calls.{Outcome, burst_outcome, card, performed}
 use Rattle.bridge.specs.State.{State}
 use Rattle.session.specs.declared.forms.Pair.{Pair}

@@ -1,5 +1,5 @@
 -- The lines of an input. The byte 0Ah ends a line and is no part of it; a last line may lack it.
-use Rattle.std.specs.Prelude.{◌≡◌, ℕ, ◌<◌, Bool, true, false, cond, List, [], ◌∷◌, ◌++◌, map, length, Some, None, vec_items, Option, ◌==◌, nat_le, nat_lt}
+use Rattle.std.specs.Prelude.{◌≡◌, ℕ, ◌<◌, cond, List, [], ◌∷◌, ◌++◌, map, length, Some, None, vec_items, Option, ◌==◌, nat_le, nat_lt}
 use Rattle.std.specs.List.{AllByRecursion}
 use Rattle.session.specs.declared.input.InputLine.{InputLine}
 use Rattle.session.specs.declared.input.InputLine.TheVariants.{TooLong, Whole}

@@ -1,5 +1,5 @@
 -- The text of a reply.
-use Rattle.std.specs.Prelude.{◌≡◌, ℕ, ◌+◌, ◌^◌, ◌<◌, cond, List, [], ◌∷◌, ◌++◌, map, vec_items, codes, ◌==◌, ◌≢◌, nat_lt, slice_index}
+use Rattle.std.specs.Prelude.{ℕ, ◌+◌, ◌^◌, ◌<◌, cond, List, [], ◌∷◌, ◌++◌, map, vec_items, codes, ◌==◌, ◌≢◌, nat_lt, slice_index}
 use Prim.Native.String.{String}
 use Rattle.std.specs.Int.Digits.{digits_of}
 use Rattle.memory.specs.Answers.{Cause}

@@ -1,4 +1,4 @@
-use Rattle.std.proofs.Common.{sym, ap, ◌∙◌}
+use Rattle.std.proofs.Common.{◌∙◌}
 use Rattle.std.proofs.Output.{has_written_of_eq}
 use Rattle.session.proofs.ReplyTexts.{ended_by_fault, ended_by_no_window}
 use Rattle.session.proofs.replies.ReadEndTextDisplay.fmt.Goals as goal

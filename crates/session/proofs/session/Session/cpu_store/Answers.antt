@@ -1,6 +1,6 @@
 use Rattle.std.proofs.Common.{◌≡◌, ◌%◌, ap, ◌∙◌, arith}
 use Rattle.bridge.specs.Calls.{Outcome, performed, processor, store}
-use Rattle.session.specs.Quadwords.{cpu_store, line_start}
+use Rattle.session.specs.Quadwords.{line_start}
 use Rattle.session.specs.Sessions.{session_state}
 use Rattle.session.proofs.QuadwordStores.{line_stored}
 use Rattle.session.proofs.session.Session.cpu_store.Goals as goal

@@ -2,7 +2,7 @@ use Rattle.std.proofs.Common.{[], map, Ok, sym, ap, ◌∙◌}
 use Rattle.memory.specs.Marked.{lines_marked}
 use Rattle.bridge.specs.State.{with_lines}
 use Rattle.session.specs.declared.forms.Name.TheVariants as N
-use Rattle.session.specs.Forms.{Asked, asked, pair_of}
+use Rattle.session.specs.Forms.{asked, pair_of}
 use Rattle.session.specs.Replies.{ok_text}
 use Rattle.session.specs.Sessions.{answer_text, replied, session_state}
 use Rattle.session.proofs.Performing.{made_in}
