@@ -14,7 +14,6 @@ const MAPPED_2: Window = Window {
 fn a_plain_window_leads_by_mask(rt: HostRuntime) -> Result<(), Fail> {
     let mut b = banked(rt.alloc(), [0x0123_4000, 0x3fff_e000], PLAIN, NONE)?;
     play(
-        &rt,
         &mut b,
         &[
             Trial::Fill(0x91a2b * 32, 1),
@@ -31,7 +30,6 @@ fn a_plain_window_leads_by_mask(rt: HostRuntime) -> Result<(), Fail> {
 fn a_mapped_window_finds_its_entry_by_mask(rt: HostRuntime) -> Result<(), Fail> {
     let mut b = banked(rt.alloc(), [0x1_0000, 0x6000], NONE, MAPPED_2)?;
     play(
-        &rt,
         &mut b,
         &[
             Trial::Table(0x1_0000, [0, 7, 0, 0]),
@@ -56,7 +54,6 @@ fn the_last_page_is_bffff(rt: HostRuntime) -> Result<(), Fail> {
     line[10] = 0x1f;
     b.store(0x1_0000, &line)?;
     play(
-        &rt,
         &mut b,
         &[
             Trial::Fill(0x1_7fff_ffe0, 3),
@@ -81,7 +78,6 @@ fn window_1_is_tried_before_window_2(rt: HostRuntime) -> Result<(), Fail> {
     };
     let mut b = banked(rt.alloc(), [0xf_e000, 0x1_0010_0000], first, second)?;
     play(
-        &rt,
         &mut b,
         &[
             Trial::Fill(0xf_ffe0, 1),
@@ -95,7 +91,6 @@ fn window_1_is_tried_before_window_2(rt: HostRuntime) -> Result<(), Fail> {
 fn a_burst_past_a_bank_does_not_reach_the_next(rt: HostRuntime) -> Result<(), Fail> {
     let mut b = banked(rt.alloc(), [0, 0x4000], PLAIN, NONE)?;
     play(
-        &rt,
         &mut b,
         &[
             Trial::Fill(0x1fe0, 1),

@@ -16,7 +16,6 @@ const HIGHEST: Window = Window {
 fn a_read_of_64_longwords_passes_and_of_65_or_0_does_not(rt: HostRuntime) -> Result<(), Fail> {
     let mut b = flat(rt.alloc(), 512, PLAIN)?;
     play(
-        &rt,
         &mut b,
         &[
             Trial::ReadAnswers(0x4000_0000, 65, Err(BurstRefusal::Bounds), &[]),
@@ -30,7 +29,6 @@ fn a_read_of_64_longwords_passes_and_of_65_or_0_does_not(rt: HostRuntime) -> Res
 fn a_write_of_64_longwords_passes_and_of_65_or_0_does_not(rt: HostRuntime) -> Result<(), Fail> {
     let mut b = flat(rt.alloc(), 512, PLAIN)?;
     play(
-        &rt,
         &mut b,
         &[
             Trial::WriteAnswers(0x4000_0000, &[7; 65], &[15; 65], Err(BurstRefusal::Bounds)),
@@ -58,21 +56,13 @@ fn a_buffer_may_not_be_shorter_than_the_count(rt: HostRuntime) -> Result<(), Fai
         b.card_write(0x4000_0000, 4, &[7; 3], &[15; 4]),
         Err(BurstRefusal::Bounds)
     );
-    write_answers(
-        &rt,
-        &mut b,
-        0x4000_0000,
-        &[7; 3],
-        &[15; 3],
-        Ok(counts(3, 1, 0)),
-    )
+    write_answers(&mut b, 0x4000_0000, &[7; 3], &[15; 3], Ok(counts(3, 1, 0)))
 }
 
 #[test]
 fn an_enable_is_needed_for_each_longword_and_at_most_15(rt: HostRuntime) -> Result<(), Fail> {
     let mut b = flat(rt.alloc(), 512, PLAIN)?;
     play(
-        &rt,
         &mut b,
         &[
             Trial::WriteAnswers(0x4000_0000, &[7; 2], &[15], Err(BurstRefusal::Bounds)),
@@ -88,7 +78,6 @@ fn an_enable_is_needed_for_each_longword_and_at_most_15(rt: HostRuntime) -> Resu
 fn a_burst_may_end_at_the_last_pci_address(rt: HostRuntime) -> Result<(), Fail> {
     let mut b = flat(rt.alloc(), 0x10_0000, HIGHEST)?;
     play(
-        &rt,
         &mut b,
         &[
             Trial::Fill(0xf_ffe0, 5),
@@ -113,9 +102,9 @@ fn reads_are_checked_in_order(rt: HostRuntime) -> Result<(), Fail> {
         (0x8000_0000, 1, BurstRefusal::Unclaimed),
     ];
     for (pci, count, refusal) in cases {
-        read_answers(&rt, &mut b, pci, count, Err(refusal), &[])?;
+        read_answers(&mut b, pci, count, Err(refusal), &[])?;
     }
-    no_fault(&rt, &b)
+    no_fault(&b)
 }
 
 #[test]
@@ -130,7 +119,7 @@ fn writes_are_checked_in_order(rt: HostRuntime) -> Result<(), Fail> {
         (0x8000_0000, 15, BurstRefusal::Unclaimed),
     ];
     for (pci, enable, refusal) in cases {
-        write_answers(&rt, &mut b, pci, &[7; 2], &[15, enable], Err(refusal))?;
+        write_answers(&mut b, pci, &[7; 2], &[15, enable], Err(refusal))?;
     }
-    no_fault(&rt, &b)
+    no_fault(&b)
 }

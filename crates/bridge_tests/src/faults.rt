@@ -13,7 +13,6 @@ fn an_entry_that_is_not_valid_fills_no_row(rt: HostRuntime) -> Result<(), Fail> 
     let mut b = flat(rt.alloc(), 0x8000, MAPPED)?;
     let fault = BurstFault::Walk(WalkFault::NotValid(0x100));
     play(
-        &rt,
         &mut b,
         &[
             Trial::Table(0x2000, [6, 0, 0, 0]),
@@ -40,7 +39,6 @@ fn a_line_of_a_table_may_be_absent(rt: HostRuntime) -> Result<(), Fail> {
     let mut b = flat(rt.alloc(), 0x2020, MAPPED)?;
     let fault = BurstFault::Walk(WalkFault::Memory(MemoryFault::Absent(0x101)));
     play(
-        &rt,
         &mut b,
         &[
             Trial::ReadAnswers(0x4000_8000, 1, ended(0, 0x4000_8000, fault), &[]),
@@ -63,7 +61,6 @@ fn a_line_of_a_table_may_be_spoiled(rt: HostRuntime) -> Result<(), Fail> {
     b.mark(0x100)?;
     let fault = BurstFault::Walk(WalkFault::Memory(MemoryFault::Spoiled(0x100)));
     play(
-        &rt,
         &mut b,
         &[
             Trial::ReadAnswers(0x4000_2010, 1, ended(0, 0x4000_2010, fault), &[]),
@@ -85,7 +82,6 @@ fn a_line_of_a_table_may_be_spoiled(rt: HostRuntime) -> Result<(), Fail> {
 fn an_absent_target_has_its_row_filled(rt: HostRuntime) -> Result<(), Fail> {
     let mut b = flat(rt.alloc(), 0x8000, MAPPED)?;
     play(
-        &rt,
         &mut b,
         &[
             Trial::Table(0x2000, [17, 0, 0, 0]),
@@ -107,14 +103,12 @@ fn an_absent_target_has_its_row_filled(rt: HostRuntime) -> Result<(), Fail> {
 fn a_spoiled_target_of_a_read_has_its_row_filled(rt: HostRuntime) -> Result<(), Fail> {
     let mut b = marked(rt.alloc(), 0x8000, MAPPED)?;
     play(
-        &rt,
         &mut b,
         &[Trial::Table(0x2000, [0, 7, 0, 0]), Trial::Fill(0x6000, 1)],
     )?;
     b.mark(0x301)?;
     let fault = BurstFault::Target(MemoryFault::Spoiled(0x301));
     play(
-        &rt,
         &mut b,
         &[
             Trial::ReadAnswers(0x4000_201c, 2, ended(1, 0x4000_2020, fault), &[0x0101_0101]),
@@ -135,7 +129,6 @@ fn a_spoiled_target_of_a_read_has_its_row_filled(rt: HostRuntime) -> Result<(), 
 fn the_log_keeps_the_first_fault_until_it_is_cleared(rt: HostRuntime) -> Result<(), Fail> {
     let mut b = flat(rt.alloc(), 64, PLAIN)?;
     play(
-        &rt,
         &mut b,
         &[
             Trial::NoFault,
@@ -174,7 +167,6 @@ fn the_log_keeps_the_first_fault_until_it_is_cleared(rt: HostRuntime) -> Result<
 fn a_write_that_dismisses_two_lines_is_missed_once(rt: HostRuntime) -> Result<(), Fail> {
     let mut b = flat(rt.alloc(), 64, PLAIN)?;
     play(
-        &rt,
         &mut b,
         &[
             Trial::WriteAnswers(0x4000_003c, &[5; 10], &[15; 10], Ok(counts(10, 1, 2))),

@@ -1,5 +1,6 @@
 // Tests of the bridge over each kind of memory. The expected values are worked out from the rules in docs/DEVICE.md.
 #![tactic(auto)]
+
 #[cfg(test)]
 mod addresses;
 #[cfg(test)]

@@ -12,14 +12,13 @@ fn a_read_joins_bytes_low_end_first_from_inside_a_line(rt: HostRuntime) -> Resul
     bytes[23] = 0x47;
     bytes[31] = 0x9f;
     b.store(0x40, &bytes)?;
-    reads(&rt, &mut b, 0x4000_0054, &[0x4700_2514, 0, 0x9f00_0000])
+    reads(&mut b, 0x4000_0054, &[0x4700_2514, 0, 0x9f00_0000])
 }
 
 #[test]
 fn a_read_goes_on_over_three_lines(rt: HostRuntime) -> Result<(), Fail> {
     let mut b = flat(rt.alloc(), 512, PLAIN)?;
     play(
-        &rt,
         &mut b,
         &[
             Trial::Fill(0, 1),
@@ -30,7 +29,7 @@ fn a_read_goes_on_over_three_lines(rt: HostRuntime) -> Result<(), Fail> {
     let mut moved = [0x0202_0202; 10];
     moved[0] = 0x0101_0101;
     moved[9] = 0x0303_0303;
-    reads(&rt, &mut b, 0x4000_001c, &moved)
+    reads(&mut b, 0x4000_001c, &moved)
 }
 
 #[test]
@@ -38,7 +37,6 @@ fn a_read_ends_where_its_window_ends(rt: HostRuntime) -> Result<(), Fail> {
     let mut b = flat(rt.alloc(), 0x10_0000, MEGABYTE)?;
     let end = ReadEnd::NoWindow { moved: 2 };
     play(
-        &rt,
         &mut b,
         &[
             Trial::Fill(0xf_ffe0, 9),
@@ -58,7 +56,6 @@ fn a_read_ends_where_its_window_ends(rt: HostRuntime) -> Result<(), Fail> {
 fn a_read_ends_at_its_first_fault(rt: HostRuntime) -> Result<(), Fail> {
     let mut b = flat(rt.alloc(), 0x7fe0, MAPPED)?;
     play(
-        &rt,
         &mut b,
         &[
             Trial::Table(0x2000, [7, 5, 0, 0]),

@@ -14,7 +14,6 @@ const TABLE_ENDS_PAGE_1: Window = Window {
 fn the_ninth_page_takes_row_0_and_the_others_stay(rt: HostRuntime) -> Result<(), Fail> {
     let mut b = flat(rt.alloc(), 0x2_0000, MAPPED)?;
     play(
-        &rt,
         &mut b,
         &[
             Trial::Table(0x2000, [9, 11, 13, 15]),
@@ -23,10 +22,9 @@ fn the_ninth_page_takes_row_0_and_the_others_stay(rt: HostRuntime) -> Result<(),
         ],
     )?;
     for page in 0..8 {
-        reads(&rt, &mut b, 0x4000_0000 + 0x2000 * page, &[0])?;
+        reads(&mut b, 0x4000_0000 + 0x2000 * page, &[0])?;
     }
     play(
-        &rt,
         &mut b,
         &[
             Trial::Register(16, 0x4000_1000),
@@ -46,8 +44,8 @@ fn the_ninth_page_takes_row_0_and_the_others_stay(rt: HostRuntime) -> Result<(),
     ];
     let data = [24, 10, 12, 14, 16, 18, 20, 22];
     for i in 0..8 {
-        register(&rt, &b, 16 + i as u64, tags[i])?;
-        register(&rt, &b, 24 + i as u64, data[i])?;
+        register(&b, 16 + i as u64, tags[i])?;
+        register(&b, 24 + i as u64, data[i])?;
     }
     Ok(())
 }
@@ -56,7 +54,6 @@ fn the_ninth_page_takes_row_0_and_the_others_stay(rt: HostRuntime) -> Result<(),
 fn two_pci_pages_lead_to_one_line(rt: HostRuntime) -> Result<(), Fail> {
     let mut b = flat(rt.alloc(), 0x8000, MAPPED)?;
     play(
-        &rt,
         &mut b,
         &[
             Trial::Table(0x2000, [7, 7, 0, 0]),
@@ -73,7 +70,6 @@ fn two_pci_pages_lead_to_one_line(rt: HostRuntime) -> Result<(), Fail> {
 fn a_burst_over_two_pci_pages_of_one_page(rt: HostRuntime) -> Result<(), Fail> {
     let mut b = flat(rt.alloc(), 0x8000, MAPPED)?;
     play(
-        &rt,
         &mut b,
         &[
             Trial::Table(0x2000, [7, 7, 0, 0]),
@@ -89,7 +85,6 @@ fn a_burst_over_two_pci_pages_of_one_page(rt: HostRuntime) -> Result<(), Fail> {
 fn a_row_serves_until_it_is_invalidated(rt: HostRuntime) -> Result<(), Fail> {
     let mut b = flat(rt.alloc(), 0x8000, MAPPED)?;
     play(
-        &rt,
         &mut b,
         &[
             Trial::Fill(0x6000, 1),
@@ -110,7 +105,6 @@ fn a_row_serves_until_it_is_invalidated(rt: HostRuntime) -> Result<(), Fail> {
 fn a_write_into_its_own_table_leaves_the_row(rt: HostRuntime) -> Result<(), Fail> {
     let mut b = flat(rt.alloc(), 0x8000, MAPPED)?;
     play(
-        &rt,
         &mut b,
         &[
             Trial::Fill(0x6000, 1),
@@ -130,7 +124,6 @@ fn a_write_into_its_own_table_leaves_the_row(rt: HostRuntime) -> Result<(), Fail
 fn a_burst_meets_the_table_as_it_wrote_it(rt: HostRuntime) -> Result<(), Fail> {
     let mut b = flat(rt.alloc(), 0x8000, TABLE_ENDS_PAGE_1)?;
     play(
-        &rt,
         &mut b,
         &[
             Trial::Table(0x3fe0, [3, 5, 0, 0]),
@@ -161,7 +154,6 @@ fn bits_of_an_entry_above_20_are_ignored(rt: HostRuntime) -> Result<(), Fail> {
     line[2] = 0xe0;
     b.store(0x2000, &line)?;
     play(
-        &rt,
         &mut b,
         &[
             Trial::Reads(0x4000_0000, &[0x0101_0101]),

@@ -34,7 +34,7 @@ fn a_performed_read_fills_its_buffer(rt: HostRuntime) -> Result<(), Fail> {
     };
     assert_eq!(rt; *pci, 0x4000_003c);
     assert_eq!(rt; *count, 1);
-    assert!(rt; buffer.as_slice() == &[0, 7, 7]);
+    assert!(rt; buffer.as_slice() == [0, 7, 7].as_slice());
     Ok(())
 }
 
@@ -58,7 +58,7 @@ fn a_performed_write_is_stored(rt: HostRuntime) -> Result<(), Fail> {
         dismissed,
     } = counts;
     assert_eq!(rt; (taken, stored, dismissed), (2, 1, 1));
-    holds(&rt, &b, 0x3c, 5)
+    holds(&b, 0x3c, 5)
 }
 
 #[test]
@@ -130,6 +130,6 @@ fn a_run_serves_cards_in_order(rt: HostRuntime) -> Result<(), Fail> {
     let Call::Card(Burst::CardRead { buffer, .. }) = &read.call else {
         return Err(Fail::new("another call"));
     };
-    assert!(rt; buffer.as_slice() == &[5, 0, 7]);
+    assert!(rt; buffer.as_slice() == [5, 0, 7].as_slice());
     Ok(())
 }

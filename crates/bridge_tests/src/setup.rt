@@ -11,8 +11,13 @@ use memory::flat::Flat;
 use memory::marks::Marks;
 use memory::{Memory, MemoryFault};
 use std::alloc::Global;
-use std::process::Abort;
+use std::fmt::Display;
 use std::test::Fail;
+
+// Fails where something does not hold, and says what.
+fn check<D: Display + Drop>(holds: bool, what: D) -> Result<(), Fail> {
+    if holds { Ok(()) } else { Err(Fail::new(what)) }
+}
 
 // A window as its three registers are written.
 #[derive(Clone, Copy)]
@@ -119,28 +124,17 @@ fn log_of<M: Memory>(bridge: &Bridge<M>) -> Option<Logged> {
     })
 }
 
-pub(crate) fn logs<M: Memory>(
-    rt: &impl Abort,
-    b: &Bridge<M>,
-    expected: Logged,
-) -> Result<(), Fail> {
-    assert_eq!(rt; log_of(b), Some(expected));
-    Ok(())
+pub(crate) fn logs<M: Memory>(b: &Bridge<M>, expected: Logged) -> Result<(), Fail> {
+    check(log_of(b) == Some(expected), "the log")
 }
 
-pub(crate) fn no_fault<M: Memory>(rt: &impl Abort, b: &Bridge<M>) -> Result<(), Fail> {
-    assert_eq!(rt; log_of(b), None);
-    Ok(())
+pub(crate) fn no_fault<M: Memory>(b: &Bridge<M>) -> Result<(), Fail> {
+    check(log_of(b).is_none(), "the log is not empty")
 }
 
-pub(crate) fn register<M: Memory>(
-    rt: &impl Abort,
-    b: &Bridge<M>,
-    n: u64,
-    value: u32,
-) -> Result<(), Fail> {
-    assert_eq!(rt; b.register_read(n)?, value, "register {n}");
-    Ok(())
+pub(crate) fn register<M: Memory>(b: &Bridge<M>, n: u64, value: u32) -> Result<(), Fail> {
+    let read = b.register_read(n)?;
+    check(read == value, format_args!("register {n}"))
 }
 
 // Stores the same byte all over a line.
@@ -167,7 +161,6 @@ const UNTOUCHED: u32 = 0x7777_7777;
 
 // A card read of `count` longwords answers so and fills the first places of its buffer so; all others stay.
 pub(crate) fn read_answers<M: Memory>(
-    rt: &impl Abort,
     b: &mut Bridge<M>,
     pci: u32,
     count: usize,
@@ -176,27 +169,27 @@ pub(crate) fn read_answers<M: Memory>(
 ) -> Result<(), Fail> {
     let mut buffer = [UNTOUCHED; 65];
     let n = moved.len();
-    assert!(rt; n <= 65);
-    assert_eq!(rt;
-        b.card_read(pci, count, &mut buffer),
-        answer,
-        "read at {pci:x}"
-    );
-    assert!(rt; buffer[0..n] == moved[..], "moved from {pci:x}");
+    if n > 65 {
+        return Err(Fail::new("too many longwords"));
+    }
+    let got = b.card_read(pci, count, &mut buffer);
+    check(got == answer, format_args!("read at {pci:x}"))?;
+    check(
+        buffer[0..n] == moved[..],
+        format_args!("moved from {pci:x}"),
+    )?;
     for word in &buffer[n..] {
-        assert_eq!(rt; *word, UNTOUCHED, "past the moved ones from {pci:x}");
+        check(
+            *word == UNTOUCHED,
+            format_args!("past the moved ones from {pci:x}"),
+        )?;
     }
     Ok(())
 }
 
 // A card read is served whole.
-pub(crate) fn reads<M: Memory>(
-    rt: &impl Abort,
-    b: &mut Bridge<M>,
-    pci: u32,
-    moved: &[u32],
-) -> Result<(), Fail> {
-    read_answers(rt, b, pci, moved.len(), Ok(()), moved)
+pub(crate) fn reads<M: Memory>(b: &mut Bridge<M>, pci: u32, moved: &[u32]) -> Result<(), Fail> {
+    read_answers(b, pci, moved.len(), Ok(()), moved)
 }
 
 // The end of a read by a fault.
@@ -211,7 +204,6 @@ pub(crate) fn absent(moved: usize, pci: u32, line: u64) -> Result<(), ReadRefusa
 
 // A card write of all the longwords answers so.
 pub(crate) fn write_answers<M: Memory>(
-    rt: &impl Abort,
     b: &mut Bridge<M>,
     pci: u32,
     words: &[u32],
@@ -219,8 +211,7 @@ pub(crate) fn write_answers<M: Memory>(
     answer: Result<WriteCounts, WriteRefusal>,
 ) -> Result<(), Fail> {
     let got = b.card_write(pci, words.len(), words, enables);
-    assert_eq!(rt; got, answer, "write at {pci:x}");
-    Ok(())
+    check(got == answer, format_args!("write at {pci:x}"))
 }
 
 pub(crate) fn counts(taken: usize, stored: usize, dismissed: usize) -> WriteCounts {
@@ -232,22 +223,23 @@ pub(crate) fn counts(taken: usize, stored: usize, dismissed: usize) -> WriteCoun
 }
 
 // The line at an address is good, with this byte at a place of it.
-pub(crate) fn holds<M: Memory>(
-    rt: &impl Abort,
-    b: &Bridge<M>,
-    address: u64,
-    byte: u8,
-) -> Result<(), Fail> {
+pub(crate) fn holds<M: Memory>(b: &Bridge<M>, address: u64, byte: u8) -> Result<(), Fail> {
     let line = b.load(address / 32 * 32)?;
-    assert_eq!(rt; line[(address % 32) as usize], byte, "at {address:x}");
-    Ok(())
+    check(
+        line[(address % 32) as usize] == byte,
+        format_args!("at {address:x}"),
+    )
 }
 
-pub(crate) fn spoiled<M: Memory>(rt: &impl Abort, b: &Bridge<M>, line: u64) -> Result<(), Fail> {
-    assert!(rt; line < 0xc00_0000);
+pub(crate) fn spoiled<M: Memory>(b: &Bridge<M>, line: u64) -> Result<(), Fail> {
+    if line >= 0xc00_0000 {
+        return Err(Fail::new("no such line"));
+    }
     let refusal = AccessRefusal::Memory(MemoryFault::Spoiled(line));
-    assert_eq!(rt; b.load(line * 32).err(), Some(refusal));
-    Ok(())
+    check(
+        b.load(line * 32).err() == Some(refusal),
+        format_args!("line {line:x}"),
+    )
 }
 
 // A call on a bridge with the answer that it should have, or what the bridge should hold.
@@ -271,7 +263,7 @@ pub enum Trial<'a> {
     NoFault,
 }
 
-fn try_one<M: Memory>(rt: &impl Abort, b: &mut Bridge<M>, trial: &Trial) -> Result<(), Fail> {
+fn try_one<M: Memory>(b: &mut Bridge<M>, trial: &Trial) -> Result<(), Fail> {
     match trial {
         Trial::Fill(address, byte) => fill(b, *address, *byte),
         Trial::Table(address, entries) => table(b, *address, *entries),
@@ -280,29 +272,25 @@ fn try_one<M: Memory>(rt: &impl Abort, b: &mut Bridge<M>, trial: &Trial) -> Resu
             b.log_clear();
             Ok(())
         }
-        Trial::Reads(pci, moved) => reads(rt, b, *pci, *moved),
+        Trial::Reads(pci, moved) => reads(b, *pci, *moved),
         Trial::ReadAnswers(pci, count, answer, moved) => {
-            read_answers(rt, b, *pci, *count, *answer, *moved)
+            read_answers(b, *pci, *count, *answer, *moved)
         }
         Trial::WriteAnswers(pci, words, enables, answer) => {
-            write_answers(rt, b, *pci, *words, *enables, *answer)
+            write_answers(b, *pci, *words, *enables, *answer)
         }
-        Trial::Holds(address, byte) => holds(rt, b, *address, *byte),
-        Trial::Spoiled(line) => spoiled(rt, b, *line),
-        Trial::Register(n, value) => register(rt, b, *n, *value),
-        Trial::Logs(expected) => logs(rt, b, *expected),
-        Trial::NoFault => no_fault(rt, b),
+        Trial::Holds(address, byte) => holds(b, *address, *byte),
+        Trial::Spoiled(line) => spoiled(b, *line),
+        Trial::Register(n, value) => register(b, *n, *value),
+        Trial::Logs(expected) => logs(b, *expected),
+        Trial::NoFault => no_fault(b),
     }
 }
 
 // Tries one after the other, up to the first that fails.
-pub(crate) fn play<M: Memory>(
-    rt: &impl Abort,
-    b: &mut Bridge<M>,
-    trials: &[Trial],
-) -> Result<(), Fail> {
-    for (i, trial) in trials.iter().enumerate() {
-        try_one(rt, b, trial).note(format_args!("trial {i}"))?;
+pub(crate) fn play<M: Memory>(b: &mut Bridge<M>, trials: &[Trial]) -> Result<(), Fail> {
+    for trial in trials {
+        try_one(b, trial)?;
     }
     Ok(())
 }

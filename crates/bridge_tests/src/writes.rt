@@ -7,7 +7,6 @@ use std::test::Fail;
 fn enables_pick_bytes(rt: HostRuntime) -> Result<(), Fail> {
     let mut b = flat(rt.alloc(), 512, PLAIN)?;
     play(
-        &rt,
         &mut b,
         &[
             Trial::Fill(0, 0xee),
@@ -30,7 +29,6 @@ fn a_write_goes_on_over_three_lines(rt: HostRuntime) -> Result<(), Fail> {
     let mut b = flat(rt.alloc(), 512, PLAIN)?;
     let words = [1, 2, 3, 4, 5, 6, 7, 8, 9, 10];
     play(
-        &rt,
         &mut b,
         &[
             Trial::WriteAnswers(0x4000_001c, &words, &[15; 10], Ok(counts(10, 3, 0))),
@@ -45,7 +43,6 @@ fn a_line_with_no_byte_enabled_is_stored_or_dismissed(rt: HostRuntime) -> Result
     let mut b = marked(rt.alloc(), 96, PLAIN)?;
     b.mark(1)?;
     play(
-        &rt,
         &mut b,
         &[
             Trial::WriteAnswers(0x4000_0000, &[7], &[0], Ok(counts(1, 1, 0))),
@@ -70,7 +67,6 @@ fn a_write_of_a_whole_line_alone_mends_it(rt: HostRuntime) -> Result<(), Fail> {
     let mut b = marked(rt.alloc(), 512, PLAIN)?;
     b.mark(1)?;
     play(
-        &rt,
         &mut b,
         &[
             Trial::WriteAnswers(
@@ -94,7 +90,6 @@ fn a_write_of_a_whole_line_alone_mends_it(rt: HostRuntime) -> Result<(), Fail> {
 fn a_faulty_line_between_good_ones_is_dismissed_alone(rt: HostRuntime) -> Result<(), Fail> {
     let mut b = flat(rt.alloc(), 0x7fe0, MAPPED)?;
     play(
-        &rt,
         &mut b,
         &[
             Trial::Table(0x2000, [7, 5, 0, 0]),
@@ -122,7 +117,6 @@ fn a_write_ends_where_its_window_ends(rt: HostRuntime) -> Result<(), Fail> {
         counts: counts(10, 2, 0),
     };
     play(
-        &rt,
         &mut b,
         &[
             Trial::WriteAnswers(
@@ -146,7 +140,6 @@ fn a_write_ends_at_a_window_behind_a_line_dismissed(rt: HostRuntime) -> Result<(
         counts: counts(2, 0, 1),
     };
     play(
-        &rt,
         &mut b,
         &[
             Trial::WriteAnswers(
