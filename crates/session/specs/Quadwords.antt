@@ -36,7 +36,7 @@ outcome_of answer state = record { answer = answer; buffer = []; state = state }
 
 -- a call that is turned down changes nothing
 abbrev pub turned_down : State → ℕ → List ℕ → Outcome
-turned_down s number values = outcome_of (refusal number values) s
+turned_down s number values = record { answer = refusal number values; buffer = []; state = s }
 
 abbrev pub store_back : State → ℕ → ℕ → Answer → Outcome
 store_back s address value (success line) = performed s (processor (store (line_start address) (with_quadword (address % 32) value line)))

@@ -107,13 +107,31 @@ outcome_text N.CardWrite o = write_text o
 abbrev pub form_text : Session → Asked → List ℕ
 form_text s asked = outcome_text asked.0 (form_outcome s asked)
 
--- and the state that it leaves
-abbrev pub form_state : Session → Asked → State
-form_state s asked = (form_outcome s asked).state
-
 -- what a form answers
 abbrev pub form_answer : Session → Asked → Answer
-form_answer s asked = (form_outcome s asked).answer
+form_answer s (N.CpuStore, (address, value)) = (cpu_store (session_state s) address value).answer
+form_answer s (N.CpuLoad, address) = cpu_load (session_state s) address
+form_answer s (N.Mark, line) = session_mark s line
+form_answer s (N.RegRead, x) = (form_outcome s (N.RegRead, x)).answer
+form_answer s (N.RegWrite, x) = (form_outcome s (N.RegWrite, x)).answer
+form_answer s (N.Pci, x) = (form_outcome s (N.Pci, x)).answer
+form_answer s (N.Log, x) = (form_outcome s (N.Log, x)).answer
+form_answer s (N.LogClear, x) = (form_outcome s (N.LogClear, x)).answer
+form_answer s (N.CardRead, x) = (form_outcome s (N.CardRead, x)).answer
+form_answer s (N.CardWrite, x) = (form_outcome s (N.CardWrite, x)).answer
+
+-- and the state that it leaves
+abbrev pub form_state : Session → Asked → State
+form_state s (N.CpuStore, (address, value)) = (cpu_store (session_state s) address value).state
+form_state s (N.CpuLoad, address) = session_state s
+form_state s (N.Mark, line) = with_lines (lines_marked (session_mark s line) line) (session_state s)
+form_state s (N.RegRead, x) = (form_outcome s (N.RegRead, x)).state
+form_state s (N.RegWrite, x) = (form_outcome s (N.RegWrite, x)).state
+form_state s (N.Pci, x) = (form_outcome s (N.Pci, x)).state
+form_state s (N.Log, x) = (form_outcome s (N.Log, x)).state
+form_state s (N.LogClear, x) = (form_outcome s (N.LogClear, x)).state
+form_state s (N.CardRead, x) = (form_outcome s (N.CardRead, x)).state
+form_state s (N.CardWrite, x) = (form_outcome s (N.CardWrite, x)).state
 
 -- an answer as a reply, of a form that returns one value at most, and whose refusals return none
 abbrev pub replied : Answer → Reply
@@ -142,7 +160,8 @@ pub record Does (before : Session) (asked : Asked) (reply : Reply) (after : Sess
 
 -- a line is answered as the form that it spells, or with 18, and nothing changes then
 pub record Answered (before : Session) (line : List ℕ) (reply : Reply) (after : Session) : Type 0 where
-  pub by_form : (asked : Asked) → Spells line asked → Does before asked reply after
+  pub by_form : (asked : Asked) → Spells line asked → (reply ≡ replied (form_answer before asked)) × (session_state after ≡ form_state before asked)
+  pub text : (asked : Asked) → Spells line asked → reply_text reply ≡ form_text before asked
   pub malformed : ((asked : Asked) → Spells line asked → ⊥) → (reply ≡ Refused 18) × (after ≡ before)
 
 -- a line of the input is answered by its bytes; one that is too long is answered 18, and nothing changes

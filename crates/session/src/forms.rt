@@ -1,7 +1,7 @@
 // The forms of a session, and how a line is read as one.
 ghost use Rattle.std.specs.Prelude.{◌≡◌, ℕ, ◌≤◌, List, map, length, drop, Decides, MatchBool, MatchOption, ◌≢◌};
 ghost use Rattle.session.specs.FormLines.{EachSpelled};
-ghost use Rattle.session.specs.Forms.{ArgsParsed, Ends, Lacks, Means, Once, One, PairParsed, Pairs, Parsed, Spells, Stands, Two, asked, name_bytes, pair_of, width_bits};
+ghost use Rattle.session.specs.Forms.{ArgsParsed, Ends, Lacks, Means, Once, One, PairParsed, Pairs, Parsed, Spells, Stands, Two, asked, is_served, name_bytes, pair_of, width_bits};
 ghost use Rattle.session.specs.Hex.{Reads};
 ghost use Rattle.session.specs.Tokens.{closing, lexemes, opening, word_of};
 
@@ -82,7 +82,6 @@ fn closes_at(tokens: &[Token], i: usize) -> bool
 
 // Whether a closing parenthesis stands at index i, and nothing after it.
 fn ends_at(tokens: &[Token], i: usize) -> bool
-    requires { i ≤ length tokens.now }
     ensures { Decides result (Ends (lexemes (drop i tokens.now))) }
 {
     closes_at(tokens, i) && i + 1 == tokens.len()
@@ -145,7 +144,6 @@ fn read_both(a: &[u8], first: Width, b: &[u8], second: Width) -> Result<(u64, u6
 
 // The form, where nothing stands behind its name.
 fn no_numbers(tokens: &[Token], form: Form) -> Result<Form, LineError>
-    requires { 2 ≤ length tokens.now }
     ensures { Parsed (λ f. f) result (λ f. (f ≡ form) × Ends (lexemes (drop 2 tokens.now))) }
 {
     if ends_at(tokens, 2) {
@@ -251,7 +249,6 @@ fn card_write(heap: Global, tokens: &[Token]) -> Result<Form, LineError>
 
 // The form of a name, with what stands behind the name.
 fn arguments(heap: Global, name: Name, tokens: &[Token]) -> Result<Form, LineError>
-    requires { 2 ≤ length tokens.now }
     ensures { ArgsParsed name (lexemes (drop 2 tokens.now)) result }
 {
     match name {
@@ -289,6 +286,13 @@ fn arguments(heap: Global, name: Name, tokens: &[Token]) -> Result<Form, LineErr
     }
 }
 
+// Whether forms of a name are served so far.
+fn is_served(name: Name) -> bool
+    ensures { result ≡ is_served name }
+{
+    matches!(name, Name::CpuStore | Name::CpuLoad | Name::Mark)
+}
+
 // The form that the tokens of a line spell.
 fn form_of(heap: Global, tokens: &[Token]) -> Result<Form, LineError>
     ensures { Parsed asked result (Means (lexemes tokens.now)) }
@@ -302,6 +306,9 @@ fn form_of(heap: Global, tokens: &[Token]) -> Result<Form, LineError>
     let Some(name) = name_of(word) else {
         return Err(LineError::Malformed);
     };
+    if !is_served(name) {
+        return Err(LineError::Malformed);
+    }
     arguments(heap, name, tokens)
 }
 
@@ -321,7 +328,7 @@ pub fn spelled_once()
     ensures { Once }
 {}
 
-// Each form whose numbers fit and whose line is short enough has a line that spells it.
+// Each form that is served, whose numbers fit and whose line is short enough has a line that spells it.
 pub fn each_spelled()
     ensures { EachSpelled }
 {}

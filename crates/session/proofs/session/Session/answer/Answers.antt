@@ -13,6 +13,6 @@ pub returns-in-Malformed : goal.returns-in-Malformed
 returns-in-Malformed c =
     let none = subst (λ e. Parsed asked (Err e) (Spells c.args.line.now)) c.in-Malformed.is c.in-Err.ensures in
     record {
-      answered = record { by_form = λ other spells. absurd (none other spells); malformed = λ _. (refl, refl) };
+      answered = record { by_form = λ other spells. absurd (none other spells); text = λ other spells. absurd (none other spells); malformed = λ _. (refl, refl) };
       unchanged = tt;
     }
