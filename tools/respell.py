@@ -4,8 +4,8 @@
 usage: python3 tools/respell.py [--show]      at the top of the repository, once, right after port.py
 
 A name is the repository's own where a file of specs/ or proofs/ declares it: a definition, a lemma, a constructor, a field, a
-parameter, or what a `let` or a λ binds. It is respelled in .antt files, in ghost lines and clauses of .rt files, and in the
-backquoted words of README.md and docs/. Names of functions, types and fields of src/ stay as they are.
+parameter, or what a `let` or a λ binds. It is respelled in .antt files and in ghost lines and clauses of .rt files. Names of
+functions, types and fields of src/, strings, README.md and docs/ stay as they are.
 """
 
 import os
@@ -84,6 +84,14 @@ def respell(text, table):
     return "".join(p if p.startswith('"') else WORD.sub(put, p) for p in parts)
 
 
+def by_recursion(text):
+    """`All` is another word of the library now; ours is its `AllByRecursion`, and no import may hide the library's word."""
+    if "AllByRecursion as All" not in text:
+        return text
+    lines = text.replace("AllByRecursion as All", "AllByRecursion").split("\n")
+    return "\n".join(l if l.startswith(("use ", "--")) else re.sub(r"(?<![\w'-])All(?![\w'-])", "AllByRecursion", l) for l in lines)
+
+
 def is_ghost(line):
     return re.match(r"\s*(?:pub\s+)?(?:ghost|requires|ensures)\b", line) is not None
 
@@ -97,7 +105,7 @@ def main():
     for p in texts("crates", ".antt"):
         with open(p, encoding="utf-8") as f:
             old = f.read()
-        lines = [l if l.strip().startswith("--") else respell(l, table) for l in old.split("\n")]
+        lines = [l if l.strip().startswith("--") else respell(l, table) for l in by_recursion(old).split("\n")]
         if "\n".join(lines) != old:
             with open(p, "w", encoding="utf-8") as f:
                 f.write("\n".join(lines))
@@ -108,15 +116,6 @@ def main():
         if "\n".join(lines) != old:
             with open(p, "w", encoding="utf-8") as f:
                 f.write("\n".join(lines))
-    for p in ["README.md"] + list(texts("docs", ".md")):
-        if os.path.basename(p).startswith("PORT") or not os.path.exists(p):
-            continue
-        with open(p, encoding="utf-8") as f:
-            old = f.read()
-        new = re.sub(r"`[^`\n]*`", lambda m: respell(m.group(0), table), old)
-        if new != old:
-            with open(p, "w", encoding="utf-8") as f:
-                f.write(new)
 
 
 if __name__ == "__main__":
