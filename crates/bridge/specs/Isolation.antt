@@ -18,7 +18,7 @@ after s (c ∷ cs) = after (performed s c).state cs
 abbrev pub before : State → List Call → ℕ → State
 before s cs n = after s (take n cs)
 
--- getD's default, past the end of a list
+-- what stands past the end of a list
 abbrev pub no_call : Call
 no_call = processor log_read
 

@@ -13,7 +13,7 @@ use Rattle.bridge.specs.State.{State}
 abbrev pub calls_of : List Step → List Call
 calls_of steps = map (λ (step : Step). call_of step.call) steps
 
--- getD's default, past the end of the steps
+-- what stands past the end of the steps
 abbrev pub no_step : Step
 no_step = record { call = Processor LogRead; answer = None }
 

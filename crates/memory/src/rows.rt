@@ -22,7 +22,7 @@ pub fn find<R: Row>(rows: &[R], n: u64) -> Option<usize>
     None
 }
 
-// What `find` may answer is one thing: what `first-index` computes.
+// What `find` may answer is one thing: what `first_index` computes.
 pub fn found_once<R: Row>(rows: &[R], n: u64)
     ensures { FoundOnce (λ row. R.answers row n) rows.now }
 {}

@@ -290,32 +290,32 @@ fn split_pairs(heap: Global, pairs: &[Pair]) -> Result<(Vec<u32>, Vec<u8>), Allo
 }
 
 // The reply of a call that returns nothing.
-fn done<R: Refusal + Drop>(res: Result<(), R>) -> Reply
-    ensures reply { result ≡ replied (answered no_values R.Refusal.cause res) }
-    ensures text { reply_text result ≡ answer_text ok_text [] (answered no_values R.Refusal.cause res) }
+fn done<R: Refusal + Drop>(outcome: Result<(), R>) -> Reply
+    ensures reply { result ≡ replied (answered no_values R.Refusal.cause outcome) }
+    ensures text { reply_text result ≡ answer_text ok_text [] (answered no_values R.Refusal.cause outcome) }
 {
-    match res {
+    match outcome {
         Ok(()) => Reply::Done,
         Err(refusal) => refused(&refusal),
     }
 }
 
 // The reply of a call that returns a value.
-fn valued<R: Refusal + Drop>(res: Result<u64, R>) -> Reply
-    ensures reply { result ≡ replied (answered (λ value. value ∷ []) R.Refusal.cause res) }
-    ensures text { reply_text result ≡ answer_text ok_text [] (answered (λ value. value ∷ []) R.Refusal.cause res) }
+fn valued<R: Refusal + Drop>(outcome: Result<u64, R>) -> Reply
+    ensures reply { result ≡ replied (answered (λ value. value ∷ []) R.Refusal.cause outcome) }
+    ensures text { reply_text result ≡ answer_text ok_text [] (answered (λ value. value ∷ []) R.Refusal.cause outcome) }
 {
-    match res {
+    match outcome {
         Ok(value) => Reply::Value(value),
         Err(refusal) => refused(&refusal),
     }
 }
 
 // The reply of a decoding.
-fn decoded(res: Result<Cycle, DecodeRefusal>) -> Reply
-    ensures { reply_text result ≡ answer_text cycle_text [] (answered cycle_values decode_cause res) }
+fn decoded(outcome: Result<Cycle, DecodeRefusal>) -> Reply
+    ensures { reply_text result ≡ answer_text cycle_text [] (answered cycle_values decode_cause outcome) }
 {
-    match res {
+    match outcome {
         Ok(cycle) => Reply::Decoded(cycle),
         Err(refusal) => refused(&refusal),
     }
