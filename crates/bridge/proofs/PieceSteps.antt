@@ -73,7 +73,7 @@ module _ (s : State) (p : Piece) (l : Located) (led : Led s l) where
 
   at_place : (q : Place) → InOpen s q → KeepsOpen s (outcome_at_place l.look_aside s.control.log s.lines p q)
   at_place unclaimed o = record { rows = led.rows; edit = tt }
-  at_place (table_fault number line) o = record { rows = led.rows; edit = tt }
+  at_place (table_fault fault) o = record { rows = led.rows; edit = tt }
   at_place (target address) o = at_content address o p.job (s.lines (address / 32))
 
 -- the same tables, and rows that name open pages, open nothing
@@ -108,7 +108,7 @@ module _ {hidden : Hidden} (s : State) (kept : Protected hidden s) where
 
     same_place : (p : Piece) (rows : LookAside) (q : Place) → InOpen s q → outcome_at_place rows s.control.log other p q ≡ outcome_at_place rows s.control.log s.lines p q
     same_place p rows unclaimed o = refl
-    same_place p rows (table_fault number line) o = refl
+    same_place p rows (table_fault fault) o = refl
     same_place p rows (target address) o =
         ap (outcome_at_content rows s.control.log p address p.job) (shown address (⊎_elim (λ h. absurd (kept.hidden_closed _ h o)) (λ h. h) (cases_Bool (hidden (page_of address)))))
 

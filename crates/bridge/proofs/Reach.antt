@@ -1,12 +1,13 @@
 -- Where a PCI address leads: into a page that is open to the cards, and to the same place for every memory with the same
 -- tables in use.
-use Rattle.std.proofs.Common.{◌≡◌, ℕ, zero, suc, ◌/◌, ◌^◌, ◌<◌, Bool, true, false, ◌⊎◌, List, [], ◌∷◌, get_or, set, Some, None, Option, sym, refl, ap, ◌∙◌, subst, inl, inr, ⊎_elim, arith}
+use Rattle.std.proofs.Common.{◌≡◌, ℕ, zero, suc, ◌/◌, ◌^◌, ◌<◌, Bool, true, false, ◌⊎◌, List, [], ◌∷◌, get_or, set, Some, None, Option, sym, refl, ap, ◌∙◌, subst, inl, inr, ⊎_elim, arith, Ok, Err, Result}
 use Rattle.std.proofs.lemmas.Nat.{mod_below, shr_high, shr-shr}
 use Rattle.std.proofs.lemmas.List.{length-set}
 use Rattle.std.proofs.lemmas.Bool.{and_parts, cond_both}
 use Rattle.memory.specs.Content.{Lines}
 use Rattle.memory.specs.Rows.{Finds, first_index}
 use Rattle.memory.specs.Searches.{first_finds}
+use Rattle.bridge.specs.declared.faults.WalkFault.{WalkFault}
 use Rattle.bridge.specs.declared.look_aside.LookAside.{LookAside}
 use Rattle.bridge.specs.declared.look_aside.LookAsideRow.{LookAsideRow}
 use Rattle.bridge.specs.Bits.{bits}
@@ -14,7 +15,7 @@ use Rattle.bridge.specs.LookAside.{cached_page, filled, page_of_row, row, row_an
 use Rattle.bridge.specs.Pages.{InUse, NamedByRow, Open, line_page, page_of}
 use Rattle.bridge.specs.Registers.{window}
 use Rattle.bridge.specs.State.{State}
-use Rattle.bridge.specs.Translation.{Entry, Located, Place, entry_fault, entry_of, located, located_by_claim, located_by_entry, located_by_row, located_by_window, names, page_address, pci_page, table_fault, target, unclaimed}
+use Rattle.bridge.specs.Translation.{Located, Place, entry_of, located, located_by_claim, located_by_entry, located_by_row, located_by_window, page_address, pci_page, table_fault, target, unclaimed}
 use Rattle.bridge.specs.Windows.{entry_address, holds, mapped}
 
 -- the page of an address is that of its line
@@ -54,7 +55,7 @@ filled_names t n new page c =
 -- a physical address lies in an open page
 abbrev pub InOpen : State → Place → Type 0
 InOpen s unclaimed = Unit {0}
-InOpen s (table_fault number line) = Unit {0}
+InOpen s (table_fault fault) = Unit {0}
 InOpen s (target address) = Open s (page_of address)
 
 -- an address in an open page, and rows that name open pages alone
@@ -76,9 +77,9 @@ module _ (s : State) (pci : ℕ) (below : pci < 2 ^ 32) where
   stays : (place : Place) → InOpen s place → Leads s (λ other. record { look_aside = s.control.look_aside; place = place })
   stays place into = record { led = record { rows = λ page c. inr (inr c); place = into }; stable = λ other same. refl }
 
-  entry_led : (address : ℕ) → InUse s.control.registers address → (e : Entry) → entry_of (s.lines (address / 32)) address ≡ e → Led s (located_by_entry s.control.look_aside pci address e)
-  entry_led address used (entry_fault number) h = record { rows = λ page c. inr (inr c); place = tt }
-  entry_led address used (names page) h = record {
+  entry_led : (address : ℕ) → InUse s.control.registers address → (e : Result ℕ WalkFault) → entry_of (s.lines (address / 32)) address ≡ e → Led s (located_by_entry s.control.look_aside pci e)
+  entry_led address used (Err fault) h = record { rows = λ page c. inr (inr c); place = tt }
+  entry_led address used (Ok page) h = record {
     rows = λ k c. ⊎_elim (λ e. subst (Open s) e named) (λ old. inr (inr old)) (filled_names _ _ _ k c);
     place = subst (Open s) (sym (page_of_page_address page pci)) named;
   }
@@ -92,7 +93,7 @@ module _ (s : State) (pci : ℕ) (below : pci < 2 ^ 32) where
     row_leads (Some page) h m = stays (target (page_address page pci)) (subst (Open s) (sym (page_of_page_address page pci)) (inr (inr (named_by_row _ _ page h))))
     row_leads None h m = record {
       led = entry_led _ used _ refl;
-      stable = λ other same. let a = entry_address (window s.control.registers number) pci in ap (λ c. located_by_entry s.control.look_aside pci a (entry_of c a)) (same a used);
+      stable = λ other same. let a = entry_address (window s.control.registers number) pci in ap (λ c. located_by_entry s.control.look_aside pci (entry_of c a)) (same a used);
     }
       where
         used : InUse s.control.registers (entry_address (window s.control.registers number) pci)

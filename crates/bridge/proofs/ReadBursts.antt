@@ -27,7 +27,7 @@ use Rattle.bridge.proofs.BurstRuns.{GoesOn, Progress, finish, first_held, held_o
 moved_append : (a b : List PieceReply) → all_moved (a ++ b) ≡ all_moved a ++ all_moved b
 moved_append [] b = refl
 moved_append (words_moved words ∷ a) b = ap (λ l. words ++ l) (moved_append a b) ∙ sym (append_assoc words (all_moved a) (all_moved b))
-moved_append (read_ended number pci line ∷ a) b = moved_append a b
+moved_append (read_ended pci fault ∷ a) b = moved_append a b
 moved_append (words_stored count ∷ a) b = moved_append a b
 moved_append (words_dismissed count ∷ a) b = moved_append a b
 moved_append (no_window ∷ a) b = moved_append a b
@@ -36,7 +36,7 @@ moved_append (no_window ∷ a) b = moved_append a b
 ended_by : (m : ℕ) (a b : List PieceReply) → AllByRecursion GoesOn a → answer_of_read m (a ++ b) ≡ answer_of_read m b
 ended_by m [] b h = refl
 ended_by m (words_moved words ∷ a) b h = ended_by m a b h.1
-ended_by m (read_ended number pci line ∷ a) b h = absurd (let z : true ≡ false = h.0 in let y : ◌≡◌ {A = ℕ} 0 1 = cc in omega arith)
+ended_by m (read_ended pci fault ∷ a) b h = absurd (let z : true ≡ false = h.0 in let y : ◌≡◌ {A = ℕ} 0 1 = cc in omega arith)
 ended_by m (words_stored count ∷ a) b h = ended_by m a b h.1
 ended_by m (words_dismissed count ∷ a) b h = ended_by m a b h.1
 ended_by m (no_window ∷ a) b h = absurd (let z : true ≡ false = h.0 in let y : ◌≡◌ {A = ℕ} 0 1 = cc in omega arith)
@@ -133,7 +133,7 @@ module _ (s₀ : State) (pci count : ℕ) (b₀ : List ℕ) (s : State) (b : Lis
     faulted fault h w =
         subst (λ l. goal t l (Err (Ended (Fault moved (pci + 4 * moved) fault)))) (sym (put_back moved n b words w))
         (subst (λ x. goal x b (Err (Ended (Fault moved (pci + 4 * moved) fault)))) (sym h.1)
-        (ended _ (read_ended (fault_number fault) (pci + 4 * moved) (fault_line fault)) (λ m. refusal (fault_number fault) (m ∷ (pci + 4 * moved) ∷ fault_line fault ∷ [])) (Err (Ended (Fault moved (pci + 4 * moved) fault))) refl (λ m. refl) refl
+        (ended _ (read_ended (pci + 4 * moved) fault) (λ m. refusal (fault_number fault) (m ∷ (pci + 4 * moved) ∷ fault_line fault ∷ [])) (Err (Ended (Fault moved (pci + 4 * moved) fault))) refl (λ m. refl) refl
         (first_held s₀ pci count reading s moved i.replies i.progress number mapped held)
         (stop s₀ pci count reading s moved i.replies i.progress n some near number mapped held _ (at_n (Err fault) h) refl)))
 

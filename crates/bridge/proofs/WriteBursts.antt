@@ -10,11 +10,11 @@ use Rattle.bridge.specs.declared.bursts.WriteEnd.{WriteEnd}
 use Rattle.bridge.specs.declared.faults.BurstFault.{BurstFault}
 use Rattle.bridge.specs.declared.log.FaultLog.{FaultLog}
 use Rattle.bridge.specs.declared.look_aside.LookAside.{LookAside}
-use Rattle.bridge.specs.BurstAnswers.{counts_of, tallied}
-use Rattle.bridge.specs.Bursts.{Piece, card_write, in_line, is_unclaimed, piece_to_write, third_check, wide_enable, writing}
+use Rattle.bridge.specs.BurstAnswers.{tallied}
+use Rattle.bridge.specs.Bursts.{Burst, Job, Piece, card_write, in_line, is_unclaimed, piece_to_write, pieces, third_check, wide_enable, writing}
 use Rattle.bridge.specs.Calls.{burst_outcome, write_outcome}
 use Rattle.bridge.specs.Pieces.{Edit, PieceOutcome, PieceReply, after_piece, no_window, outcome_by_write, outcome_claimed, read_ended, words_dismissed, words_moved, words_stored}
-use Rattle.bridge.specs.Runs.{Counts, answer_of_write, counted, ends, met_no_window}
+use Rattle.bridge.specs.Runs.{answer_of_write, counted, ends, met_no_window, run}
 use Rattle.bridge.specs.State.{State}
 use Rattle.bridge.specs.Windows.{claim}
 use Rattle.bridge.proofs.BurstRuns.{GoesOn, Progress, finish, held_outcome, piece_at, start, step, stop_unheld, unheld_outcome}
@@ -36,22 +36,22 @@ wide_part es count done n l h =
     (wide_drop (take (done + n) es) done (subst (λ x. wide_enable x ≡ false) e (wide_take (take count es) (done + n) h))))
 
 -- counts side by side
-abbrev summed : Counts → Counts → Counts
+abbrev summed : WriteCounts → WriteCounts → WriteCounts
 summed a b = record { taken = a.taken + b.taken; stored = a.stored + b.stored; dismissed = a.dismissed + b.dismissed }
 
 counted_append : (a b : List PieceReply) → counted (a ++ b) ≡ summed (counted a) (counted b)
 counted_append [] b = simp zero-add
 counted_append (words_moved words ∷ a) b = counted_append a b
-counted_append (read_ended number pci line ∷ a) b = counted_append a b
-counted_append (words_stored count ∷ a) b = ap (λ (c : Counts). record { taken = count + c.taken; stored = 1 + c.stored; dismissed = c.dismissed }) (counted_append a b) ∙ simp add_assoc
-counted_append (words_dismissed count ∷ a) b = ap (λ (c : Counts). record { taken = count + c.taken; stored = c.stored; dismissed = 1 + c.dismissed }) (counted_append a b) ∙ simp add_assoc
+counted_append (read_ended pci fault ∷ a) b = counted_append a b
+counted_append (words_stored count ∷ a) b = ap (λ (c : WriteCounts). record { taken = count + c.taken; stored = 1 + c.stored; dismissed = c.dismissed }) (counted_append a b) ∙ simp add_assoc
+counted_append (words_dismissed count ∷ a) b = ap (λ (c : WriteCounts). record { taken = count + c.taken; stored = c.stored; dismissed = 1 + c.dismissed }) (counted_append a b) ∙ simp add_assoc
 counted_append (no_window ∷ a) b = counted_append a b
 
 -- only the last reply can say that no window held a longword
 met_by : (a b : List PieceReply) → AllByRecursion GoesOn a → met_no_window (a ++ b) ≡ met_no_window b
 met_by [] b h = refl
 met_by (words_moved words ∷ a) b h = met_by a b h.1
-met_by (read_ended number pci line ∷ a) b h = met_by a b h.1
+met_by (read_ended pci fault ∷ a) b h = met_by a b h.1
 met_by (words_stored count ∷ a) b h = met_by a b h.1
 met_by (words_dismissed count ∷ a) b h = met_by a b h.1
 met_by (no_window ∷ a) b h = absurd (let z : true ≡ false = h.0 in let y : ◌≡◌ {A = ℕ} 0 1 = cc in omega arith)
@@ -60,7 +60,7 @@ abbrev reply_of : ℕ → Bool → PieceReply
 reply_of n true = words_stored n
 reply_of n false = words_dismissed n
 
-counted_one : (c : WriteCounts) (n : ℕ) (b : Bool) → summed (counts_of c) (counted (reply_of n b ∷ [])) ≡ counts_of (tallied c n b)
+counted_one : (c : WriteCounts) (n : ℕ) (b : Bool) → summed c (counted (reply_of n b ∷ [])) ≡ tallied c n b
 counted_one c n true = simp add-zero
 counted_one c n false = simp add-zero
 
@@ -77,7 +77,7 @@ reply_goes_on n false = refl
 pub record Writing (s₀ : State) (pci count : ℕ) (words enables : List ℕ) (s : State) (counts : WriteCounts) : Type 0 where
   pub fewer : counts.stored + counts.dismissed ≤ counts.taken
   pub replies : List PieceReply
-  pub tally : counted replies ≡ counts_of counts
+  pub tally : counted replies ≡ counts
   pub progress : Progress s₀ pci count (writing words enables) s counts.taken replies
 
 pub begin : (s : State) (pci count : ℕ) (words enables : List ℕ) → Writing s pci count words enables s (record { taken = 0; stored = 0; dismissed = 0 })
@@ -104,11 +104,11 @@ module _ (s₀ : State) (pci count : ℕ) (words enables : List ℕ) (s : State)
       ap (λ y. write_outcome s (Err y)) is ∙ ap (λ t. write_outcome t (Err Unclaimed)) z.1 ∙ sym (unheld_outcome s₀ (card_write pci count words enables) pci unheld))
       (λ z. let is : x ≡ Ended (record { counts = counts }) = e ∙ cond-false (eqb counts.taken 0) _ _ (ne_eqb counts.taken 0 (λ k. omega (arith, z.0))) in
       let all = i.replies ++ no_window ∷ [] in
-      let sum : counted all ≡ counts_of counts = counted_append i.replies (no_window ∷ []) ∙ simp add-zero i.tally in
+      let sum : counted all ≡ counts = counted_append i.replies (no_window ∷ []) ∙ simp add-zero i.tally in
       ap (λ y. write_outcome s (Err y)) is
       ∙ sym (held_outcome s₀ (card_write pci count words enables) pci _ z.1 (stop_unheld s₀ pci count (writing words enables) s counts.taken i.replies i.progress some none)
-      ∙ ap (λ (c : Counts). record { state = s; answer = answer_of_write c (met_no_window all); buffer = [] }) sum
-      ∙ ap (λ b. record { state = s; answer = answer_of_write (counts_of counts) b; buffer = [] }) (met_by i.replies (no_window ∷ []) i.progress.go_on)))
+      ∙ ap (λ (c : WriteCounts). record { state = s; answer = answer_of_write c (met_no_window all); buffer = [] }) sum
+      ∙ ap (λ b. record { state = s; answer = answer_of_write counts b; buffer = [] }) (met_by i.replies (no_window ∷ []) i.progress.go_on)))
       i.progress.begun
 
   module _ (n : ℕ) (some : counts.taken < count) (room : count ≤ length words) (near : n ≡ in_line (pci + 4 * counts.taken) (count - counts.taken)) (number : ℕ) (mapped : Bool) (held : claim s.control.registers (pci + 4 * counts.taken) ≡ Some (number, mapped))
@@ -134,7 +134,7 @@ module _ (s₀ : State) (pci count : ℕ) (words enables : List ℕ) (s : State)
         record {
           fewer = fewer_still counts next n (is_ok r) (omega (arith, near)) i.fewer e;
           replies = i.replies ++ done.reply ∷ [];
-          tally = counted_append i.replies (done.reply ∷ []) ∙ ap (λ x. summed (counted i.replies) (counted (x ∷ []))) reply ∙ ap (λ c. summed c (counted (reply_of n (is_ok r) ∷ []))) i.tally ∙ counted_one counts n (is_ok r) ∙ ap counts_of (sym e);
+          tally = counted_append i.replies (done.reply ∷ []) ∙ ap (λ x. summed (counted i.replies) (counted (x ∷ []))) reply ∙ ap (λ c. summed c (counted (reply_of n (is_ok r) ∷ []))) i.tally ∙ counted_one counts n (is_ok r) ∙ sym e;
           progress = subst (λ k. Progress s₀ pci count (writing words enables) t k (i.replies ++ done.reply ∷ [])) (taken_is counts next n (is_ok r) e)
               (step s₀ pci count (writing words enables) s counts.taken i.replies i.progress n some near number mapped held done (h ∙ ap (λ p. outcome_claimed s p number mapped) own_is) (ap ends reply ∙ reply_goes_on n (is_ok r)) t (after ∙ sym (ap (after_piece s) h)));
         }
@@ -143,5 +143,5 @@ module _ (s₀ : State) (pci count : ℕ) (words enables : List ℕ) (s : State)
   complete some h =
       let held : is_unclaimed (claim s₀.control.registers pci) ≡ false = ⊎_elim (λ z. absurd (omega (arith, z.0))) (λ z. z.1) i.progress.begun in
       sym (held_outcome s₀ (card_write pci count words enables) pci _ held (finish s₀ pci count (writing words enables) s counts.taken i.replies i.progress h)
-      ∙ ap (λ (c : Counts). record { state = s; answer = answer_of_write c (met_no_window i.replies); buffer = [] }) i.tally
-      ∙ ap (λ b. record { state = s; answer = answer_of_write (counts_of counts) b; buffer = [] }) (ap met_no_window (sym (append-nil i.replies)) ∙ met_by i.replies [] i.progress.go_on))
+      ∙ ap (λ (c : WriteCounts). record { state = s; answer = answer_of_write c (met_no_window i.replies); buffer = [] }) i.tally
+      ∙ ap (λ b. record { state = s; answer = answer_of_write counts b; buffer = [] }) (ap met_no_window (sym (append-nil i.replies)) ∙ met_by i.replies [] i.progress.go_on))

@@ -8,7 +8,7 @@ use Rattle.bridge.specs.declared.bursts.ReadEnd.TheVariants.{Fault, NoWindow}
 use Rattle.bridge.specs.declared.bursts.WriteCounts.{WriteCounts}
 use Rattle.bridge.specs.declared.bursts.WriteEnd.{WriteEnd}
 use Rattle.bridge.specs.Faults.{fault_line, fault_number}
-use Rattle.bridge.specs.Runs.{Counts, count_values}
+use Rattle.bridge.specs.Runs.{count_values}
 
 -- the three checks are numbers 1, 2 and 3, and return nothing further
 abbrev pub burst_cause : {E : Type 0} → (E → Cause) → BurstRefusal E → Cause
@@ -22,23 +22,16 @@ abbrev pub read_end_cause : ReadEnd → Cause
 read_end_cause (NoWindow moved) = record { number = 4; values = moved ∷ [] }
 read_end_cause (Fault moved pci fault) = record { number = fault_number fault; values = moved ∷ pci ∷ fault_line fault ∷ [] }
 
--- the code's counts are those of the definition
-abbrev pub counts_of : WriteCounts → Counts
-counts_of c = record { taken = c.taken; stored = c.stored; dismissed = c.dismissed }
-
-abbrev pub write_values : WriteCounts → List ℕ
-write_values c = count_values (counts_of c)
-
 -- a write's 4 returns its three counts
 abbrev pub write_end_cause : WriteEnd → Cause
-write_end_cause e = record { number = 4; values = write_values e.counts }
+write_end_cause e = record { number = 4; values = count_values e.counts }
 
 -- a read that succeeds returns nothing but its buffer, a write its three counts
 abbrev pub read_answered : Result Unit (BurstRefusal ReadEnd) → Answer
 read_answered r = answered no_values (burst_cause read_end_cause) r
 
 abbrev pub write_answered : Result WriteCounts (BurstRefusal WriteEnd) → Answer
-write_answered r = answered write_values (burst_cause write_end_cause) r
+write_answered r = answered count_values (burst_cause write_end_cause) r
 
 -- the counts with a line more, stored or dismissed
 abbrev pub tallied : WriteCounts → ℕ → Bool → WriteCounts

@@ -37,16 +37,12 @@ abbrev pub is_unclaimed : Option (ℕ × Bool) → Bool
 is_unclaimed None = true
 is_unclaimed (Some claimed) = false
 
--- the third check alone, at the address where a burst begins
 abbrev pub third_check : Registers → ℕ → Option ℕ
 third_check r pci = cond (is_unclaimed (claim r pci)) (Some 3) None
 
 -- the first check that fails, by its number
 abbrev pub failed_check : Registers → Burst → Option ℕ
-failed_check r b =
-    cond (out_of_bounds b) (Some 1)
-    (cond (misaligned b) (Some 2)
-    (cond (is_unclaimed (claim r (burst_start b))) (Some 3) None))
+failed_check r b = cond (out_of_bounds b) (Some 1) (cond (misaligned b) (Some 2) (third_check r (burst_start b)))
 
 -- The cut. A job is what is asked of some longwords: to be read, or written with these values under these byte enables.
 pub data Job : Type 0 where

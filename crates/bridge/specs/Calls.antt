@@ -8,7 +8,7 @@ use Rattle.bridge.specs.declared.bursts.WriteCounts.{WriteCounts}
 use Rattle.bridge.specs.declared.bursts.WriteEnd.{WriteEnd}
 use Rattle.bridge.specs.BurstAnswers.{read_answered, write_answered}
 use Rattle.bridge.specs.Bursts.{Burst, failed_check, pieces}
-use Rattle.bridge.specs.Log.{empty_log, log_values}
+use Rattle.bridge.specs.Log.{empty_log, reading_values}
 use Rattle.bridge.specs.Processor.{decode_answer, lines_stored, load_answer, store_answer}
 use Rattle.bridge.specs.Registers.{Register, register_named, register_read_answer, register_write_answer, registers_written, rows_written}
 use Rattle.bridge.specs.Runs.{Run, burst_answer, burst_buffer, lent_buffer, run}
@@ -69,7 +69,7 @@ request_answer s (register_write n v) = register_write_answer (register_named n)
 request_answer s (load address) = load_answer s.lines address
 request_answer s (store address bytes) = store_answer s.lines address
 request_answer s (decode cpu) = decode_answer s.control.registers cpu
-request_answer s log_read = success (log_values s.control.log)
+request_answer s log_read = success (reading_values s.control.log.reading)
 request_answer s log_clear = success []
 
 abbrev pub burst_served : Burst → Run → Outcome

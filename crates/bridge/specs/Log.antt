@@ -6,32 +6,25 @@ use Rattle.bridge.specs.declared.log.FaultRecord.{FaultRecord}
 use Rattle.bridge.specs.declared.log.FaultLog.{FaultLog}
 use Rattle.bridge.specs.declared.log.LogReading.{LogReading}
 use Rattle.bridge.specs.Bits.{flag}
+use Rattle.bridge.specs.Faults.{fault_line, fault_number}
 
 abbrev pub empty_log : FaultLog
-empty_log = record { first = None; missed = false }
+empty_log = record { reading = None }
 
--- an empty log takes a fault; a filled one keeps its record, and says that it missed others
-abbrev pub logged_after : Option FaultRecord → FaultRecord → FaultLog
-logged_after None fault = record { first = Some fault; missed = false }
-logged_after (Some old) fault = record { first = Some old; missed = true }
+-- an empty log takes a fault; a filled one keeps its first, and says that it missed others
+abbrev pub logged_after : Option LogReading → FaultRecord → LogReading
+logged_after None fault = record { first = fault; missed = false }
+logged_after (Some r) fault = record { first = r.first; missed = true }
 
 abbrev pub logged : FaultLog → FaultRecord → FaultLog
-logged log fault = logged_after log.first fault
+logged log fault = record { reading = Some (logged_after log.reading fault) }
 
 -- 0 for a read, 1 for a write
 abbrev pub direction_number : Direction → ℕ
 direction_number Read = 0
 direction_number Write = 1
 
--- what a log read gives: nothing of an empty log, else number, direction, PCI address, line, and 1 where others were missed
-abbrev pub log_values_by : FaultLog → Option FaultRecord → List ℕ
-log_values_by log None = []
-log_values_by log (Some f) = f.number ∷ direction_number f.direction ∷ f.pci ∷ f.line ∷ flag log.missed ∷ []
-
-abbrev pub log_values : FaultLog → List ℕ
-log_values log = log_values_by log log.first
-
--- the same of what the code answers
+-- what a log says: nothing where it is empty, else number, direction, PCI address, line, and 1 where others were missed
 abbrev pub reading_values : Option LogReading → List ℕ
 reading_values None = []
-reading_values (Some r) = r.fault.number ∷ direction_number r.fault.direction ∷ r.fault.pci ∷ r.fault.line ∷ flag r.missed ∷ []
+reading_values (Some r) = fault_number r.first.fault ∷ direction_number r.first.direction ∷ r.first.pci ∷ fault_line r.first.fault ∷ flag r.missed ∷ []

@@ -1,12 +1,12 @@
 -- Which pages are open to the cards.
-use Rattle.std.specs.Prelude.{◌≡◌, ℕ, ◌/◌, ◌^◌, ◌<◌, true, false, ◌⊎◌, length}
+use Rattle.std.specs.Prelude.{◌≡◌, ℕ, ◌/◌, ◌^◌, ◌<◌, true, false, Ok, ◌⊎◌, length}
 use Rattle.memory.specs.Content.{Lines}
 use Rattle.bridge.specs.declared.look_aside.LookAside.{LookAside}
 use Rattle.bridge.specs.declared.registers.Registers.{Registers}
 use Rattle.bridge.specs.LookAside.{row}
 use Rattle.bridge.specs.Registers.{window}
 use Rattle.bridge.specs.State.{State}
-use Rattle.bridge.specs.Translation.{entry_of, names}
+use Rattle.bridge.specs.Translation.{entry_of}
 use Rattle.bridge.specs.Windows.{entry_address, holds, mapped, plain_address}
 
 -- the page of a physical address, and of a line
@@ -41,7 +41,7 @@ pub record InUse (r : Registers) (address : ℕ) : Type 0 where
 pub record NamedByEntry (r : Registers) (lines : Lines) (page : ℕ) : Type 0 where
   pub address : ℕ
   pub in_use : InUse r address
-  pub named : entry_of (lines (address / 32)) address ≡ names page
+  pub named : entry_of (lines (address / 32)) address ≡ Ok page
 
 -- a valid row names the page
 pub record NamedByRow (t : LookAside) (page : ℕ) : Type 0 where

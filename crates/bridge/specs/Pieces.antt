@@ -1,11 +1,12 @@
 -- One piece of a burst: claim, translation, one memory call.
 use Rattle.std.specs.Prelude.{ℕ, ◌/◌, ◌%◌, Bool, List, Ok, Err, Result}
 use Rattle.memory.specs.Content.{Content, Lines, absent, spoiled, good, written}
+use Rattle.memory.specs.declared.MemoryFault.TheVariants.{Absent, Spoiled}
 use Rattle.bridge.specs.declared.faults.BurstFault.{BurstFault}
+use Rattle.bridge.specs.declared.faults.BurstFault.TheVariants.{Target, Walk}
 use Rattle.bridge.specs.declared.log.FaultLog.{FaultLog}
 use Rattle.bridge.specs.declared.look_aside.LookAside.{LookAside}
 use Rattle.bridge.specs.Bursts.{Job, Piece, direction, reading, writing}
-use Rattle.bridge.specs.Faults.{fault_line, fault_number}
 use Rattle.bridge.specs.Log.{logged}
 use Rattle.bridge.specs.Longwords.{line_bytes, line_mask, longwords}
 use Rattle.bridge.specs.State.{Control, State}
@@ -21,11 +22,11 @@ abbrev pub edited : Edit → Lines → Lines
 edited no_edit lines = lines
 edited (line_edit line bytes mask) lines = written line bytes mask lines
 
--- what a card learns of a piece: of a read the longwords, or the fault that ends it (number, PCI address, line); of a write
+-- what a card learns of a piece: of a read the longwords, or the fault that ends it with its PCI address; of a write
 -- only how many longwords were stored, or dismissed with their line; of both that no window holds it
 pub data PieceReply : Type 0 where
   words_moved : List ℕ → PieceReply
-  read_ended : ℕ → ℕ → ℕ → PieceReply
+  read_ended : ℕ → BurstFault → PieceReply
   words_stored : ℕ → PieceReply
   words_dismissed : ℕ → PieceReply
   no_window : PieceReply
@@ -38,16 +39,16 @@ pub record PieceOutcome : Type 0 where
   pub edit : Edit
 
 -- a fault ends a read, and dismisses the line of a write
-abbrev pub fault_reply : Piece → Job → ℕ → ℕ → PieceReply
-fault_reply p reading number line = read_ended number p.pci line
-fault_reply p (writing words enables) number line = words_dismissed p.count
+abbrev pub fault_reply : Piece → Job → BurstFault → PieceReply
+fault_reply p reading fault = read_ended p.pci fault
+fault_reply p (writing words enables) fault = words_dismissed p.count
 
 -- a fault goes to the log, with the PCI address of the burst's first longword in the line
-abbrev pub outcome_faulted : LookAside → FaultLog → Piece → ℕ → ℕ → PieceOutcome
-outcome_faulted t log p number line = record {
+abbrev pub outcome_faulted : LookAside → FaultLog → Piece → BurstFault → PieceOutcome
+outcome_faulted t log p fault = record {
   look_aside = t;
-  log = logged log (record { number = number; direction = direction p.job; pci = p.pci; line = line });
-  reply = fault_reply p p.job number line;
+  log = logged log (record { fault = fault; direction = direction p.job; pci = p.pci });
+  reply = fault_reply p p.job fault;
   edit = no_edit;
 }
 
@@ -65,15 +66,15 @@ outcome_written t log p address words enables = record {
 
 -- the memory call at the target: 8 where its line is absent, 9 where a read finds it spoiled
 abbrev pub outcome_at_content : LookAside → FaultLog → Piece → ℕ → Job → Content → PieceOutcome
-outcome_at_content t log p address job absent = outcome_faulted t log p 8 (address / 32)
-outcome_at_content t log p address reading spoiled = outcome_faulted t log p 9 (address / 32)
+outcome_at_content t log p address job absent = outcome_faulted t log p (Target (Absent (address / 32)))
+outcome_at_content t log p address reading spoiled = outcome_faulted t log p (Target (Spoiled (address / 32)))
 outcome_at_content t log p address reading (good bytes) = outcome_read t log p address bytes
 outcome_at_content t log p address (writing words enables) spoiled = outcome_written t log p address words enables
 outcome_at_content t log p address (writing words enables) (good bytes) = outcome_written t log p address words enables
 
 abbrev pub outcome_at_place : LookAside → FaultLog → Lines → Piece → Place → PieceOutcome
 outcome_at_place t log lines p unclaimed = record { look_aside = t; log = log; reply = no_window; edit = no_edit }
-outcome_at_place t log lines p (table_fault number line) = outcome_faulted t log p number line
+outcome_at_place t log lines p (table_fault fault) = outcome_faulted t log p (Walk fault)
 outcome_at_place t log lines p (target address) = outcome_at_content t log p address p.job (lines (address / 32))
 
 abbrev pub outcome_located : FaultLog → Lines → Piece → Located → PieceOutcome
@@ -86,11 +87,11 @@ outcome_claimed s p number mapped = outcome_located s.control.log s.lines p (loc
 -- what the code's answer for a piece stands for, with the rows that it leaves: of a read the longwords, of a write the edit
 abbrev pub outcome_by_read : LookAside → FaultLog → Piece → List ℕ → Result Unit BurstFault → PieceOutcome
 outcome_by_read t log p words (Ok done) = record { look_aside = t; log = log; reply = words_moved words; edit = no_edit }
-outcome_by_read t log p words (Err fault) = outcome_faulted t log p (fault_number fault) (fault_line fault)
+outcome_by_read t log p words (Err fault) = outcome_faulted t log p fault
 
 abbrev pub outcome_by_write : LookAside → FaultLog → Piece → Edit → Result Unit BurstFault → PieceOutcome
 outcome_by_write t log p edit (Ok done) = record { look_aside = t; log = log; reply = words_stored p.count; edit = edit }
-outcome_by_write t log p edit (Err fault) = outcome_faulted t log p (fault_number fault) (fault_line fault)
+outcome_by_write t log p edit (Err fault) = outcome_faulted t log p fault
 
 abbrev pub piece_outcome : Control → Lines → Piece → PieceOutcome
 piece_outcome k lines p = outcome_located k.log lines p (located k.registers k.look_aside lines p.pci)

@@ -6,60 +6,52 @@ ghost use Rattle.bridge.specs.Log.{empty_log, logged, reading_values};
 ghost use Rattle.bridge.specs.State.{state_of};
 
 use crate::Bridge;
+use crate::faults::BurstFault;
 use memory::Memory;
 
 // What a card asked for.
-#[derive(Clone, Copy)]
+#[derive(Clone, Copy, Debug, PartialEq)]
 pub enum Direction {
     Read,
     Write,
 }
 
-// A fault: its number, the PCI address of the burst's first longword in the line, and the line of the table or of the
-// target.
-#[derive(Clone, Copy)]
+// A fault, with what the card asked for and the PCI address of the burst's first longword in the line.
+#[derive(Clone, Copy, Debug, PartialEq)]
 pub struct FaultRecord {
-    pub number: u8,
+    pub fault: BurstFault,
     pub direction: Direction,
     pub pci: u32,
-    pub line: u64,
 }
 
+// What a filled log says: the first fault since it was cleared, and whether others came after it.
+#[derive(Clone, Copy, Debug, PartialEq)]
+pub struct LogReading {
+    pub first: FaultRecord,
+    pub missed: bool,
+}
+
+// Filled or empty.
 #[derive(Clone, Copy)]
 pub struct FaultLog {
-    first: Option<FaultRecord>,
-    missed: bool,
+    reading: Option<LogReading>,
 }
 
 impl FaultLog {
     pub(crate) fn empty() -> FaultLog
         ensures { result ≡ empty_log }
     {
-        FaultLog {
-            first: None,
-            missed: false,
-        }
+        FaultLog { reading: None }
     }
 
-    // Takes a fault where the log is empty; a filled log keeps its record, and says that it missed others.
-    pub(crate) fn note(&mut self, record: FaultRecord)
-        ensures { self.new ≡ logged self.old «record» }
+    // Takes a fault where the log is empty; a filled log keeps its first, and says that it missed others.
+    pub(crate) fn note(&mut self, fault: FaultRecord)
+        ensures { self.new ≡ logged self.old fault }
     {
-        match self.first {
-            None => *self = FaultLog {
-                first: Some(record),
-                ..FaultLog::empty()
-            },
-            Some(_) => self.missed = true,
-        }
+        let missed = self.reading.is_some();
+        let first = self.reading.map_or(fault, |reading| reading.first);
+        self.reading = Some(LogReading { first, missed });
     }
-}
-
-// What a filled log says: the first fault since it was cleared, and whether others came after it.
-#[derive(Clone, Copy)]
-pub struct LogReading {
-    pub fault: FaultRecord,
-    pub missed: bool,
 }
 
 impl<M: Memory> Bridge<M> {
@@ -67,11 +59,7 @@ impl<M: Memory> Bridge<M> {
     pub fn log_read(&self) -> Option<LogReading>
         ensures { success (reading_values result) ≡ (performed (state_of M.Memory.content self.now) (processor log_read)).answer }
     {
-        let fault = self.log.first?;
-        Some(LogReading {
-            fault,
-            missed: self.log.missed,
-        })
+        self.log.reading
     }
 
     // Empties the log.

@@ -62,10 +62,9 @@ impl<M: Memory> Bridge<M> {
         let served = self.read_line(number, mapped, pci, words);
         if let Err(fault) = served {
             self.log.note(FaultRecord {
-                number: fault.number(),
+                fault,
                 direction: Direction::Read,
                 pci,
-                line: fault.line(),
             });
         }
         served

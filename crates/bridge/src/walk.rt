@@ -1,9 +1,8 @@
 // From a PCI address to a physical one: by a plain window, a look-aside row, or an entry of a table.
-ghost use Rattle.std.specs.Prelude.{◌≡◌, ◌/◌, ◌%◌, IfErr, IfOk};
-ghost use Rattle.bridge.specs.Faults.{walk_line};
+ghost use Rattle.std.specs.Prelude.{◌≡◌, ◌/◌, ◌%◌, IfOk};
 ghost use Rattle.bridge.specs.Registers.{window};
 ghost use Rattle.bridge.specs.State.{state_of, with_rows};
-ghost use Rattle.bridge.specs.Translation.{entry_by, entry_of, located_by_window, page_address, place_by};
+ghost use Rattle.bridge.specs.Translation.{entry_of, located_by_window, page_address, place_by};
 
 use crate::Bridge;
 use crate::faults::WalkFault;
@@ -21,8 +20,7 @@ impl<M: Memory> Bridge<M> {
     // The page that the entry of a table names.
     fn entry_page(&self, address: u64) -> Result<u32, WalkFault>
         requires { address % 8 ≡ 0 }
-        ensures entry { entry_by result ≡ entry_of (M.Memory.content self.now.memory (address / 32)) address }
-        ensures line { IfErr result (λ fault. walk_line fault ≡ address / 32) }
+        ensures { result ≡ entry_of (M.Memory.content self.now.memory (address / 32)) address }
     {
         let line = address / 32;
         let mut bytes = BLANK;

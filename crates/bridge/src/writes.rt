@@ -121,10 +121,9 @@ impl<M: Memory> Bridge<M> {
         let served = self.write_line(number, mapped, pci, words, enables);
         if let Err(fault) = served {
             self.log.note(FaultRecord {
-                number: fault.number(),
+                fault,
                 direction: Direction::Write,
                 pci,
-                line: fault.line(),
             });
         }
         served

@@ -38,7 +38,7 @@ module _ (met : List FaultRecord) (log : FaultLog) (is : log ≡ log_of met) whe
 
   at_place : (rows : LookAside) (lines : Lines) (p : Piece) (q : Place) → (outcome_at_place rows log lines p q).log ≡ log_of (met ++ faults_at lines p q)
   at_place rows lines p unclaimed = none_met
-  at_place rows lines p (table_fault number line) = one_met _
+  at_place rows lines p (table_fault fault) = one_met _
   at_place rows lines p (target address) = at_content rows p address p.job (lines (address / 32))
 
 -- the later pieces, unless the first ends the burst

@@ -6,12 +6,14 @@ use Rattle.std.proofs.lemmas.Bool.{cases_eq, cases_lt, cond-false, cond-true, le
 use Rattle.std.proofs.lemmas.Bool.Decides.{nat_tests}
 use Rattle.memory.specs.Answers.{Answer, refusal}
 use Rattle.memory.specs.Content.{Content, Lines, absent, good, spoiled}
+use Rattle.bridge.specs.declared.faults.BurstFault.{BurstFault}
 use Rattle.bridge.specs.declared.log.Direction.TheVariants.{Read}
 use Rattle.bridge.specs.declared.log.FaultLog.{FaultLog}
 use Rattle.bridge.specs.declared.look_aside.LookAside.{LookAside}
 use Rattle.bridge.specs.Bits.{bits}
 use Rattle.bridge.specs.Bursts.{Burst, Piece, burst_start, card_read, cut, failed_check, in_line, is_unclaimed, misaligned, out_of_bounds, pieces, reading}
 use Rattle.bridge.specs.Calls.{burst_outcome}
+use Rattle.bridge.specs.Faults.{fault_line, fault_number}
 use Rattle.bridge.specs.Longwords.{longword_at, longwords}
 use Rattle.bridge.specs.Pieces.{Edit, PieceOutcome, PieceReply, after_piece, edited, no_edit, no_window, outcome_at_content, outcome_at_place, piece_outcome, read_ended, words_moved}
 use Rattle.bridge_laws.specs.Reads.{FaultAt, ReadAt, ReadEndsWith, ReadLaw, Reads, at_absent, at_fault, at_no_window, at_spoiled, at_table, complete, serving}
@@ -25,7 +27,7 @@ use Rattle.bridge_laws.proofs.SameLine.{target_low, target_on}
 -- what a card learns of a piece of a read
 data ReadReply (s : State) (pci n : ℕ) : PieceReply → Type 0 where
   got : (address : ℕ) (bytes : List ℕ) → place_of s pci ≡ target address → s.lines (address / 32) ≡ good bytes → ReadReply s pci n (words_moved (longwords n (address % 32) bytes))
-  failed : {number line : ℕ} → FaultAt s pci Read number line → ReadReply s pci n (read_ended number pci line)
+  failed : {fault : BurstFault} → FaultAt s pci Read fault → ReadReply s pci n (read_ended pci fault)
   unheld : place_of s pci ≡ unclaimed → ReadReply s pci n no_window
 
 module _ (s : State) (pci n : ℕ) (t : LookAside) where
@@ -37,7 +39,7 @@ module _ (s : State) (pci n : ℕ) (t : LookAside) where
 
   reply_at_place : (q : Place) → place_of s pci ≡ q → ReadReply s pci n (outcome_at_place t s.control.log s.lines (record { pci = pci; count = n; job = reading }) q).reply
   reply_at_place unclaimed e = unheld e
-  reply_at_place (table_fault number line) e = failed (at_table number line e)
+  reply_at_place (table_fault fault) e = failed (at_table fault e)
   reply_at_place (target address) e = reply_at_content address e _ refl
 
 read_reply : (s : State) (pci n : ℕ) → ReadReply s pci n (piece_outcome s.control s.lines (record { pci = pci; count = n; job = reading })).reply
@@ -113,13 +115,13 @@ unfolding p
 reading_step s pci left aligned some ps t log e later (got address bytes led held) h =
     read_more s pci left some ps _ later.replies (length-map-range_with_len _ 0 (in_line pci left))
     (λ k l. at_same refl refl (sym (get_or-map-range_with_len (λ j. longword_at bytes (address % 32 + 4 * j)) 0 (in_line pci left) k k 0 l (omega arith))) (own_word s pci left aligned address bytes led held k l)) h
-reading_step s pci left aligned some ps t log e later (failed {number} {line} f) h =
+reading_step s pci left aligned some ps t log e later (failed {fault} f) h =
     let fits = in_line_some pci left some in
     record {
       most = omega arith;
       words = λ k l. absurd (omega arith);
       end = λ m.
-          let here : ReadEndsWith s pci m left (refusal number (m ∷ pci ∷ line ∷ [])) = at_fault (omega arith) f in
+          let here : ReadEndsWith s pci m left (refusal (fault_number fault) (m ∷ pci ∷ fault_line fault ∷ [])) = at_fault (omega arith) f in
           end_at (sym (serving_own s (record { pci = pci; count = in_line pci left; job = reading }) ps 0 fits.0)) (omega arith) (omega arith) here;
     }
 reading_step s pci left aligned some ps t log e later (unheld u) h =
@@ -152,7 +154,7 @@ module _ (s : State) (pci n : ℕ) (t : LookAside) (log : FaultLog) (lines : Lin
 
   edit_at_place : (q : Place) → (outcome_at_place t log lines (record { pci = pci; count = n; job = reading }) q).edit ≡ no_edit
   edit_at_place unclaimed = refl
-  edit_at_place (table_fault number line) = refl
+  edit_at_place (table_fault fault) = refl
   edit_at_place (target address) = edit_at_content address _
 
 run_piece_lines : (s : State) (o : PieceOutcome) (later : Run) → (after_piece s o).lines ≡ s.lines → later.state.lines ≡ s.lines → (run_piece s o later).state.lines ≡ s.lines

@@ -5,15 +5,20 @@ use Rattle.std.proofs.lemmas.Bool.{both_ways, cases_Bool, cases_eq, cond-false, 
 use Rattle.std.proofs.lemmas.Bool.Decides.{nat_tests}
 use Rattle.std.specs.List.{AllByRecursion}
 use Rattle.memory.specs.Answers.{Answer, success, refusal}
-use Rattle.bridge.specs.declared.log.Direction.{Direction}
-use Rattle.bridge.specs.Bursts.{Burst, Job, Piece, burst_start, card_read, card_write, cut, failed_check, in_line, is_unclaimed, misaligned, out_of_bounds, reading, writing}
-use Rattle.bridge.specs.Calls.{burst_outcome, card, performed}
+use Rattle.memory.specs.declared.MemoryFault.TheVariants.{Absent, Spoiled}
+use Rattle.bridge.specs.declared.faults.BurstFault.{BurstFault}
+use Rattle.bridge.specs.declared.faults.BurstFault.TheVariants.{Target, Walk}
+use Rattle.bridge.specs.declared.faults.WalkFault.TheVariants.{Memory, NotValid}
+use Rattle.bridge.specs.Faults.{fault_number}
+use Rattle.bridge.specs.Bursts.{Burst, Job, Piece, burst_start, card_read, card_write, cut, failed_check, in_line, is_unclaimed, misaligned, out_of_bounds, pieces, reading, writing}
+use Rattle.bridge.specs.Calls.{Outcome, burst_outcome, card, performed}
 use Rattle.bridge_laws.specs.Cuts.{InOneLine}
 use Rattle.bridge.specs.Pieces.{PieceReply, no_window, read_ended, words_dismissed, words_moved, words_stored}
-use Rattle.bridge_laws.specs.Reads.{FaultAt, ReadEndsWith, at_absent, at_fault, at_no_window, at_spoiled, at_table, complete, serving}
+use Rattle.bridge_laws.specs.Reads.{ReadEndsWith, at_fault, at_no_window, complete, serving}
 use Rattle.bridge_laws.proofs.BoundsFacts.{alignment, bounds}
-use Rattle.bridge_laws.specs.Refusals.{ChecksLaw, Refusals}
-use Rattle.bridge.specs.Runs.{Counts, burst_answer, answer_of_read, answer_of_write}
+use Rattle.bridge_laws.specs.Refusals.{ChecksLaw, Refusals, RefusedExactly, SomeBefore4}
+use Rattle.bridge.specs.declared.bursts.WriteCounts.{WriteCounts}
+use Rattle.bridge.specs.Runs.{burst_answer, lent_buffer, answer_of_read, run, answer_of_write}
 use Rattle.bridge.specs.State.{State}
 use Rattle.bridge_laws.specs.Translated.{Translated, by_entry, by_none, by_plain_window, by_row, not_valid, table_absent, table_spoiled}
 use Rattle.bridge.specs.Translation.{Located, Place, place_of, table_fault, target, unclaimed}
@@ -27,7 +32,7 @@ use Rattle.bridge_laws.proofs.WriteFacts.{writes}
 -- an address that leads nowhere is not claimed
 abbrev UnclaimedBy : State → ℕ → Place → Type 0
 UnclaimedBy s pci unclaimed = is_unclaimed (claim s.control.registers pci) ≡ true
-UnclaimedBy s pci (table_fault number line) = 5 ≤ number
+UnclaimedBy s pci (table_fault fault) = Unit {0}
 UnclaimedBy s pci (target address) = Unit {0}
 
 place_fact : (s : State) (pci : ℕ) (l : Located) → Translated s pci l → UnclaimedBy s pci l.place
@@ -35,21 +40,20 @@ place_fact s pci l (by_none f g) = ap is_unclaimed (cond-false (holds s.control.
 place_fact s pci l (by_plain_window number h m) = tt
 place_fact s pci l (by_row number i f) = tt
 place_fact s pci l (by_entry number page bytes f h v e) = tt
-place_fact s pci l (not_valid number bytes f h v) = omega arith
-place_fact s pci l (table_absent number f h) = omega arith
-place_fact s pci l (table_spoiled number f h) = omega arith
+place_fact s pci l (not_valid number bytes f h v) = tt
+place_fact s pci l (table_absent number f h) = tt
+place_fact s pci l (table_spoiled number f h) = tt
 
 unheld : (s : State) (pci : ℕ) → place_of s pci ≡ unclaimed → is_unclaimed (claim s.control.registers pci) ≡ true
 unheld s pci e = subst (UnclaimedBy s pci) e (place_fact s pci _ (translates s pci))
 
 -- a fault's number is not 4
-table_number : (s : State) (pci number line : ℕ) → place_of s pci ≡ table_fault number line → 5 ≤ number
-table_number s pci number line e = subst (UnclaimedBy s pci) e (place_fact s pci _ (translates s pci))
-
-fault_number : {s : State} {pci : ℕ} {d : Direction} {number line : ℕ} → FaultAt s pci d number line → 5 ≤ number
-fault_number {s} {pci} (at_table number line e) = table_number s pci number line e
-fault_number (at_absent address e h) = omega arith
-fault_number (at_spoiled address e h) = omega arith
+over_4 : (fault : BurstFault) → 5 ≤ fault_number fault
+over_4 (Walk (NotValid line)) = omega arith
+over_4 (Walk (Memory (Absent line))) = omega arith
+over_4 (Walk (Memory (Spoiled line))) = omega arith
+over_4 (Target (Absent line)) = omega arith
+over_4 (Target (Spoiled line)) = omega arith
 
 -- the number and the values of an answer
 abbrev number_of : Answer → ℕ
@@ -88,12 +92,12 @@ SaysSomething (refusal number values) = 0 < length values
 read_says : (m : ℕ) (rs : List PieceReply) → SaysSomething (answer_of_read m rs)
 read_says m [] = tt
 read_says m (words_moved words ∷ rs) = read_says m rs
-read_says m (read_ended number pci line ∷ rs) = omega arith
+read_says m (read_ended pci fault ∷ rs) = omega arith
 read_says m (words_stored count ∷ rs) = read_says m rs
 read_says m (words_dismissed count ∷ rs) = read_says m rs
 read_says m (no_window ∷ rs) = omega arith
 
-write_says : (c : Counts) (b : Bool) → SaysSomething (answer_of_write c b)
+write_says : (c : WriteCounts) (b : Bool) → SaysSomething (answer_of_write c b)
 write_says c true = omega arith
 write_says c false = tt
 
@@ -148,7 +152,7 @@ module _ (s : State) (b : Burst) where
 read_4 : {s : State} {pci moved left : ℕ} {a : Answer} (values : List ℕ) → ReadEndsWith s pci moved left a → a ≡ refusal 4 values → (place_of s pci ≡ unclaimed) × (moved ∷ [] ≡ values)
 read_4 values (complete z) e = absurd (let n : 0 ≡ 4 = ap number_of e in omega arith)
 read_4 values (at_no_window some u) e = (u, ap values_of e)
-read_4 values (at_fault {number} some f) e = absurd (let n : number ≡ 4 = ap number_of e in let m = fault_number f in omega arith)
+read_4 values (at_fault {fault} some f) e = absurd (let n : fault_number fault ≡ 4 = ap number_of e in let m = over_4 fault in omega arith)
 
 write_4 : {s : State} {ps : List Piece} {stored : List Bool} {a : Answer} (values : List ℕ) → W.WriteEndsWith s ps stored a → a ≡ refusal 4 values
     → (length stored < length ps) × (place_of s (W.nth_piece ps (length stored)).pci ≡ unclaimed) × (W.counts ps stored ≡ values)

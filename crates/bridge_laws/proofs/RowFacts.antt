@@ -1,9 +1,10 @@
 -- The look-aside rows over a run of calls.
-use Rattle.std.proofs.Common.{◌≡◌, ℕ, zero, suc, ◌/◌, Bool, true, false, ◌⊎◌, List, [], ◌∷◌, get_or, set, replicate, Some, None, Option, sym, refl, ap, ◌∙◌, subst, inl, inr, ⊎_elim, arith}
+use Rattle.std.proofs.Common.{◌≡◌, ℕ, zero, suc, ◌/◌, Bool, true, false, ◌⊎◌, List, [], ◌∷◌, get_or, set, replicate, Some, None, Option, sym, refl, ap, ◌∙◌, subst, inl, inr, ⊎_elim, arith, Ok, Err, Result}
 use Rattle.std.proofs.lemmas.List.{get_or-set_other, get_or-set_same}
 use Rattle.std.proofs.lemmas.Bool.{false≢true}
 use Rattle.std.proofs.lemmas.Bool.Decides.{nat_tests}
 use Rattle.memory.specs.Content.{Content, Lines, absent, good, spoiled}
+use Rattle.bridge.specs.declared.faults.WalkFault.{WalkFault}
 use Rattle.bridge.specs.declared.log.FaultLog.{FaultLog}
 use Rattle.bridge.specs.declared.look_aside.LookAside.{LookAside}
 use Rattle.bridge.specs.declared.look_aside.LookAsideRow.{LookAsideRow}
@@ -17,7 +18,7 @@ use Rattle.bridge.specs.Registers.{Register, haxr0, haxr1, haxr2, invalidate_all
 use Rattle.bridge_laws.specs.RowRuns.{FilledRow, LeavesRows, RowsFill, RowsInRuns, RowsInvalidate, RowsLast, RowsServe}
 use Rattle.bridge.specs.Runs.{Run, ends, run, run_unless}
 use Rattle.bridge.specs.State.{Control, State, new_state}
-use Rattle.bridge.specs.Translation.{Entry, Place, entry_fault, entry_of, located, located_by_claim, located_by_entry, located_by_row, names, table_fault, target, unclaimed}
+use Rattle.bridge.specs.Translation.{Place, entry_of, located, located_by_claim, located_by_entry, located_by_row, table_fault, target, unclaimed}
 use Rattle.bridge.specs.Windows.{claim, entry_address}
 
 -- each row of t is that of s, or one that was filled
@@ -39,9 +40,9 @@ set_at (x ∷ l) (suc i) (suc k) r d = set_at l i k r d
 
 -- a translation
 module _ (r : Registers) (t : LookAside) (lines : Lines) (pci : ℕ) where
-  by_entry : (number : ℕ) → claim r pci ≡ Some (number, true) → (e : Entry) → entry_of (lines (entry_address (window r number) pci / 32)) (entry_address (window r number) pci) ≡ e → From t (located_by_entry t pci (entry_address (window r number) pci) e).look_aside
-  by_entry number c (entry_fault n) h = from_refl t
-  by_entry number c (names page) h = λ i.
+  by_entry : (number : ℕ) → claim r pci ≡ Some (number, true) → (e : Result ℕ WalkFault) → entry_of (lines (entry_address (window r number) pci / 32)) (entry_address (window r number) pci) ≡ e → From t (located_by_entry t pci e).look_aside
+  by_entry number c (Err fault) h = from_refl t
+  by_entry number c (Ok page) h = λ i.
       ⊎_elim inl
       (λ e. inr (record { registers = r; lines = lines; pci = pci; number = number; page = page; claimed = c; named = h; is = e }))
       (set_at t.rows t.pointer i _ zero_row)
@@ -68,7 +69,7 @@ content_rows t log p address (writing words enables) (good bytes) = refl
 
 place_rows : (t : LookAside) (log : FaultLog) (lines : Lines) (p : Piece) (q : Place) → (outcome_at_place t log lines p q).look_aside ≡ t
 place_rows t log lines p unclaimed = refl
-place_rows t log lines p (table_fault number line) = refl
+place_rows t log lines p (table_fault fault) = refl
 place_rows t log lines p (target address) = content_rows t log p address p.job (lines (address / 32))
 
 piece_rows : (s : State) (p : Piece) → From s.control.look_aside (piece_outcome s.control s.lines p).look_aside

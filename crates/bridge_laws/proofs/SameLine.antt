@@ -1,7 +1,8 @@
 -- The longwords of one line lead to one line.
-use Rattle.std.proofs.Common.{◌≡◌, ℕ, ◌+◌, ◌-◌, ◌*◌, ◌/◌, ◌%◌, ◌^◌, ◌<◌, Bool, true, false, cond, ◌&&◌, eqb, Some, None, Option, refl, ap, ◌∙◌, subst, ap₂, arith}
+use Rattle.std.proofs.Common.{◌≡◌, ℕ, ◌+◌, ◌-◌, ◌*◌, ◌/◌, ◌%◌, ◌^◌, ◌<◌, Bool, true, false, cond, ◌&&◌, eqb, Some, None, Option, refl, ap, ◌∙◌, subst, ap₂, arith, Ok, Err, Result}
 use lib.Bits.{bit_and, bit_xor}
 use Rattle.memory.specs.Content.{Lines}
+use Rattle.bridge.specs.declared.faults.WalkFault.{WalkFault}
 use Rattle.bridge.specs.declared.look_aside.LookAside.{LookAside}
 use Rattle.bridge.specs.declared.registers.Registers.{Registers}
 use Rattle.bridge.specs.declared.registers.Window.{Window}
@@ -9,13 +10,13 @@ use Rattle.bridge.specs.Bits.{bits, bits_kept}
 use Rattle.bridge.specs.LookAside.{cached_page}
 use Rattle.bridge.specs.Registers.{window}
 use Rattle.bridge.specs.State.{State}
-use Rattle.bridge.specs.Translation.{Entry, Place, entry_fault, entry_of, located_by_claim, located_by_entry, located_by_row, located_by_window, names, page_address, pci_page, place_of, table_fault, target, unclaimed}
+use Rattle.bridge.specs.Translation.{Place, entry_of, located_by_claim, located_by_entry, located_by_row, located_by_window, page_address, pci_page, place_of, table_fault, target, unclaimed}
 use Rattle.bridge.specs.Windows.{claim, enabled, entry_address, holds, mapped, mixed, plain_address, target_base}
 
 -- a place some longwords on
 abbrev moved_on : ℕ → Place → Place
 moved_on k unclaimed = unclaimed
-moved_on k (table_fault number line) = table_fault number line
+moved_on k (table_fault fault) = table_fault fault
 moved_on k (target address) = target (address + 4 * k)
 
 -- k longwords on from an aligned address, in the same line
@@ -48,13 +49,13 @@ module _ (pci k : ℕ) (aligned : pci % 4 ≡ 0) (near : bits 4 2 pci + k < 8) w
   page_on page = omega arith
 
   module _ (r : Registers) (t : LookAside) (lines : Lines) where
-    entry_place : (address : ℕ) (e : Entry) → (located_by_entry t (pci + 4 * k) address e).place ≡ moved_on k (located_by_entry t pci address e).place
-    entry_place address (names page) = ap target (page_on page)
-    entry_place address (entry_fault number) = refl
+    entry_place : (e : Result ℕ WalkFault) → (located_by_entry t (pci + 4 * k) e).place ≡ moved_on k (located_by_entry t pci e).place
+    entry_place (Ok page) = ap target (page_on page)
+    entry_place (Err fault) = refl
 
     row_place : (address : ℕ) (o : Option ℕ) → (located_by_row t lines (pci + 4 * k) address o).place ≡ moved_on k (located_by_row t lines pci address o).place
     row_place address (Some page) = ap target (page_on page)
-    row_place address None = entry_place address (entry_of (lines (address / 32)) address)
+    row_place address None = entry_place (entry_of (lines (address / 32)) address)
 
     window_place : (w : Window) (b : Bool) → (located_by_window t lines (pci + 4 * k) w b).place ≡ moved_on k (located_by_window t lines pci w b).place
     window_place w true =
@@ -76,20 +77,20 @@ module _ (pci k : ℕ) (aligned : pci % 4 ≡ 0) (near : bits 4 2 pci + k < 8) w
 -- a target keeps the PCI address's place in its line
 abbrev KeptLow : ℕ → Place → Type 0
 KeptLow pci unclaimed = Unit {0}
-KeptLow pci (table_fault number line) = Unit {0}
+KeptLow pci (table_fault fault) = Unit {0}
 KeptLow pci (target address) = address % 32 ≡ pci % 32
 
 module _ (pci : ℕ) (r : Registers) (t : LookAside) (lines : Lines) where
   page_low : (page : ℕ) → page_address page pci % 32 ≡ pci % 32
   page_low page = omega arith
 
-  entry_low : (address : ℕ) (e : Entry) → KeptLow pci (located_by_entry t pci address e).place
-  entry_low address (names page) = page_low page
-  entry_low address (entry_fault number) = tt
+  entry_low : (e : Result ℕ WalkFault) → KeptLow pci (located_by_entry t pci e).place
+  entry_low (Ok page) = page_low page
+  entry_low (Err fault) = tt
 
   row_low : (address : ℕ) (o : Option ℕ) → KeptLow pci (located_by_row t lines pci address o).place
   row_low address (Some page) = page_low page
-  row_low address None = entry_low address _
+  row_low address None = entry_low _
 
   window_low : (w : Window) (b : Bool) → KeptLow pci (located_by_window t lines pci w b).place
   window_low w true = row_low _ _

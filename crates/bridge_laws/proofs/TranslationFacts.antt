@@ -11,14 +11,14 @@ use Rattle.bridge.specs.Translation.{entry_number, entry_of, located_by_claim, l
 use Rattle.bridge.specs.Windows.{holds, mapped}
 
 module _ (s : State) (pci number : ℕ) (holder : FirstHolder s.control.registers pci number) where
-  by_content : Searched s pci number None → (c : Content) → s.lines (entry_at s number pci / 32) ≡ c → Translated s pci (located_by_entry s.control.look_aside pci (entry_at s number pci) (entry_of c (entry_at s number pci)))
+  by_content : Searched s pci number None → (c : Content) → s.lines (entry_at s number pci / 32) ≡ c → Translated s pci (located_by_entry s.control.look_aside pci (entry_of c (entry_at s number pci)))
   by_content f absent h = table_absent number f h
   by_content f spoiled h = table_spoiled number f h
   by_content f (good bytes) h =
       let n = entry_number bytes (entry_at s number pci) in
       ⊎_elim
-      (λ v. subst (λ e. Translated s pci (located_by_entry s.control.look_aside pci (entry_at s number pci) e)) (sym (cond-true (bit n 0) _ _ v)) (by_entry number _ bytes f h v refl))
-      (λ v. subst (λ e. Translated s pci (located_by_entry s.control.look_aside pci (entry_at s number pci) e)) (sym (cond-false (bit n 0) _ _ v)) (not_valid number bytes f h v))
+      (λ v. subst (λ e. Translated s pci (located_by_entry s.control.look_aside pci e)) (sym (cond-true (bit n 0) _ _ v)) (by_entry number _ bytes f h v refl))
+      (λ v. subst (λ e. Translated s pci (located_by_entry s.control.look_aside pci e)) (sym (cond-false (bit n 0) _ _ v)) (not_valid number bytes f h v))
       (cases_Bool (bit n 0))
 
   by_found : (o : Option ℕ) → Searched s pci number o → Translated s pci (located_by_row s.control.look_aside s.lines pci (entry_at s number pci) (page_of_row s.control.look_aside o))

@@ -1,12 +1,13 @@
 -- The concrete lists meet the premise: until a window is enabled nothing is open; after that the tables in use lie in page 1,
 -- and no page is open but page 3 and pages from 80h on.
-use Rattle.std.proofs.Common.{◌≡◌, ℕ, zero, suc, ◌+◌, ◌*◌, ◌/◌, ◌^◌, ◌<◌, ◌≤◌, Bool, true, false, ◌&&◌, eqb, ltb, sym, refl, ap, ◌∙◌, subst, inl, inr, arith}
+use Rattle.std.proofs.Common.{◌≡◌, ℕ, zero, suc, ◌+◌, ◌*◌, ◌/◌, ◌^◌, ◌<◌, ◌≤◌, Bool, true, false, ◌&&◌, eqb, ltb, sym, refl, ap, ◌∙◌, subst, inl, inr, arith, Ok, Err, Result}
 use lib.Bits.{and_zero_r, bit_or}
 use Rattle.std.proofs.lemmas.Nat.{mod_below}
 use Rattle.std.proofs.lemmas.Bool.{and_parts, both_ways, cond_both, cond-false, eqb-true, false≢true, le-ltb, ne_eqb, true≢false}
 use Rattle.std.proofs.lemmas.Bool.Decides.{Decides-below_and}
 use Rattle.std.specs.List.{AllByRecursion}
 use Rattle.memory.specs.Content.{Has32Bytes, Lawful, Lines, merged}
+use Rattle.bridge.specs.declared.faults.WalkFault.{WalkFault}
 use Rattle.bridge.specs.declared.registers.Registers.{Registers}
 use Rattle.bridge.specs.declared.registers.Window.{Window}
 use Rattle.bridge.specs.Bits.{bits}
@@ -17,7 +18,7 @@ use Rattle.bridge.specs.LookAside.{zero_rows}
 use Rattle.bridge.specs.Pages.{InUse, NamedByEntry, Open, PlainlyReached, page_of}
 use Rattle.bridge.specs.Registers.{window}
 use Rattle.bridge.specs.State.{State}
-use Rattle.bridge.specs.Translation.{Entry, entry_fault, entry_of, names}
+use Rattle.bridge.specs.Translation.{entry_of}
 use Rattle.bridge.specs.Windows.{enabled, entry_address, holds, mapped, plain_address}
 use Rattle.bridge_laws.specs.Witness.{PremiseMet, calls_storing, left_calls, page_2, right_calls, start, zero_lines}
 use Rattle.bridge.proofs.TwinCalls.{isolation, none_valid}
@@ -63,9 +64,9 @@ plain_apart = record {
 }
 
 -- an entry that names page 3, or no page
-names_3 : Entry → Bool
-names_3 (names page) = eqb page 3
-names_3 (entry_fault number) = true
+names_3 : Result ℕ WalkFault → Bool
+names_3 (Ok page) = eqb page 3
+names_3 (Err fault) = true
 
 abbrev entry_test : Lines → ℕ → Bool
 entry_test lines j = names_3 (entry_of (lines (quadword j / 32)) (quadword j))
@@ -82,7 +83,7 @@ each_entry : (lines : Lines) → table_test lines ≡ true → (j : ℕ) → j <
 unfolding table_test all_below
 each_entry lines = (Decides-below_and (entry_test lines) (λ j. entry_test lines j ≡ true) (all_below (entry_test lines)) (λ j. (λ e. e, λ e. e)) refl (λ _. refl) 128).0
 
-page_named : (e : Entry) (page : ℕ) → e ≡ names page → names_3 e ≡ true → page ≡ 3
+page_named : (e : Result ℕ WalkFault) (page : ℕ) → e ≡ Ok page → names_3 e ≡ true → page ≡ 3
 unfolding names_3
 page_named e page named h = eqb-true page 3 (ap names_3 (sym named) ∙ h)
 

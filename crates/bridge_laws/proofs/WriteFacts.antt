@@ -9,9 +9,12 @@ use Rattle.bridge.specs.declared.log.Direction.TheVariants.{Write}
 use Rattle.bridge.specs.declared.look_aside.LookAside.{LookAside}
 use Rattle.bridge.specs.Bursts.{Burst, Piece, card_write, cut, in_line, pieces, wide_enable, writing, wrong_count}
 use Rattle.bridge.specs.Calls.{burst_outcome}
-use Rattle.bridge.specs.Pieces.{PieceOutcome, PieceReply, after_piece, no_window, outcome_at_content, outcome_at_place, outcome_written, piece_outcome, words_dismissed, words_stored}
+use Rattle.bridge.specs.Longwords.{line_bytes, line_mask}
+use Rattle.bridge.specs.Pieces.{PieceOutcome, PieceReply, after_piece, no_window, outcome_at_content, outcome_at_place, outcome_faulted, outcome_written, piece_outcome, words_dismissed, words_stored}
+use Rattle.bridge.specs.declared.faults.BurstFault.{BurstFault}
 use Rattle.bridge_laws.specs.Reads.{FaultAt, at_absent, at_table}
-use Rattle.bridge.specs.Runs.{Counts, Run, counted, ends, met_no_window, run, run_piece, run_unless, answer_of_write}
+use Rattle.bridge.specs.declared.bursts.WriteCounts.{WriteCounts}
+use Rattle.bridge.specs.Runs.{Run, count_values, counted, ends, met_no_window, run, run_piece, run_unless, answer_of_write}
 use Rattle.bridge.specs.State.{State}
 use Rattle.bridge.specs.Translation.{Place, place_of, table_fault, target, unclaimed}
 use Rattle.bridge_laws.specs.Writes.{LineAfter, LineServed, Stored, WriteEndsWith, WriteLaw, Writes, at_no_window, before_piece, complete, nth_piece, was_dismissed, was_stored}
@@ -23,7 +26,7 @@ use Rattle.bridge_laws.proofs.SameLine.{target_low, target_on}
 -- what a piece of a write comes to
 data WriteStep (s : State) (p : Piece) (o : PieceOutcome) : Type 0 where
   step_stored : o.reply ≡ words_stored p.count → Stored s (after_piece s o) p → WriteStep s p o
-  step_dismissed : {number line : ℕ} → o.reply ≡ words_dismissed p.count → FaultAt s p.pci Write number line → (after_piece s o).lines ≡ s.lines → WriteStep s p o
+  step_dismissed : {fault : BurstFault} → o.reply ≡ words_dismissed p.count → FaultAt s p.pci Write fault → (after_piece s o).lines ≡ s.lines → WriteStep s p o
   step_unheld : o.reply ≡ no_window → place_of s p.pci ≡ unclaimed → (after_piece s o).lines ≡ s.lines → WriteStep s p o
 
 module _ (s : State) (pci left : ℕ) (aligned : pci % 4 ≡ 0) (words enables : List ℕ) (narrow : wide_enable enables ≡ false) (few : length enables ≤ in_line pci left) (t : LookAside) where
@@ -50,7 +53,7 @@ module _ (s : State) (pci left : ℕ) (aligned : pci % 4 ≡ 0) (words enables :
   at_place : (q : Place) → place_of s pci ≡ q
       → WriteStep s (record { pci = pci; count = in_line pci left; job = writing words enables }) (outcome_at_place t s.control.log s.lines (record { pci = pci; count = in_line pci left; job = writing words enables }) q)
   at_place unclaimed e = step_unheld refl e refl
-  at_place (table_fault number line) e = step_dismissed refl (at_table number line e) refl
+  at_place (table_fault fault) e = step_dismissed refl (at_table fault e) refl
   at_place (target address) e = at_content address e _ refl
 
 write_step : (s : State) (pci left : ℕ) → pci % 4 ≡ 0 → (words enables : List ℕ) → wide_enable enables ≡ false → length enables ≤ in_line pci left
@@ -58,7 +61,7 @@ write_step : (s : State) (pci left : ℕ) → pci % 4 ≡ 0 → (words enables :
 write_step s pci left a words enables narrow few = at_place s pci left a words enables narrow few _ _ refl
 
 -- the three counts as a record
-abbrev summed : List Piece → List Bool → Counts
+abbrev summed : List Piece → List Bool → WriteCounts
 summed ps stored = record { taken = sum_by (λ (p : Piece). p.count) (take (length stored) ps); stored = count_by (λ b. b) stored; dismissed = count_by not stored }
 
 summed_stored : (p : Piece) (ps : List Piece) (l : List Bool) → summed (p ∷ ps) (true ∷ l) ≡ record { taken = p.count + (summed ps l).taken; stored = 1 + (summed ps l).stored; dismissed = (summed ps l).dismissed }
@@ -104,7 +107,7 @@ module _ (s : State) (p : Piece) (ps : List Piece) (later : Run) where
       (record {
         stored = true ∷ h.stored;
         served = elim [ zero ↦ λ _. was_stored w | suc i ↦ λ l. h.served i (omega arith) ];
-        tally = ap (λ (c : Counts). record { taken = p.count + c.taken; stored = 1 + c.stored; dismissed = c.dismissed }) h.tally ∙ sym (summed_stored p ps h.stored);
+        tally = ap (λ (c : WriteCounts). record { taken = p.count + c.taken; stored = 1 + c.stored; dismissed = c.dismissed }) h.tally ∙ sym (summed_stored p ps h.stored);
         end = ending_more true _ h.end;
         memory = h.memory;
       })
@@ -113,7 +116,7 @@ module _ (s : State) (p : Piece) (ps : List Piece) (later : Run) where
       (record {
         stored = false ∷ h.stored;
         served = elim [ zero ↦ λ _. was_dismissed f same | suc i ↦ λ l. h.served i (omega arith) ];
-        tally = ap (λ (c : Counts). record { taken = p.count + c.taken; stored = c.stored; dismissed = 1 + c.dismissed }) h.tally ∙ sym (summed_dismissed p ps h.stored);
+        tally = ap (λ (c : WriteCounts). record { taken = p.count + c.taken; stored = c.stored; dismissed = 1 + c.dismissed }) h.tally ∙ sym (summed_dismissed p ps h.stored);
         end = ending_more false _ h.end;
         memory = h.memory;
       })
@@ -147,9 +150,9 @@ writings (suc turns) pci left words enables h a narrow s =
     (writings turns (pci + 4 * n) (left - n) (drop n words) (drop n enables) (omega arith) (omega arith) parts.1 _)))
     (cases_eq left 0)
 
-answer_end : {s : State} {ps : List Piece} {l : List Bool} (c : Counts) (b : Bool) → c ≡ summed ps l → Ending s ps l b → WriteEndsWith s ps l (answer_of_write c b)
-answer_end {s} {ps} {l} c b e (whole h) = subst (λ (d : Counts). WriteEndsWith s ps l (answer_of_write d false)) (sym e) (complete h)
-answer_end {s} {ps} {l} c b e (short h u) = subst (λ (d : Counts). WriteEndsWith s ps l (answer_of_write d true)) (sym e) (at_no_window h u)
+answer_end : {s : State} {ps : List Piece} {l : List Bool} (c : WriteCounts) (b : Bool) → c ≡ summed ps l → Ending s ps l b → WriteEndsWith s ps l (answer_of_write c b)
+answer_end {s} {ps} {l} c b e (whole h) = subst (λ (d : WriteCounts). WriteEndsWith s ps l (answer_of_write d false)) (sym e) (complete h)
+answer_end {s} {ps} {l} c b e (short h u) = subst (λ (d : WriteCounts). WriteEndsWith s ps l (answer_of_write d true)) (sym e) (at_no_window h u)
 
 pub writes : Writes
 writes s pci count words enables ok =

@@ -1,6 +1,9 @@
 -- What the log says after a run of calls: the first fault since the last clear, and whether others came after it.
 use Rattle.std.specs.Prelude.{◌≡◌, ℕ, ◌/◌, true, false, cond, List, [], ◌∷◌, ◌++◌, Some, None, Option}
 use Rattle.memory.specs.Content.{Content, Lines, absent, good, spoiled}
+use Rattle.memory.specs.declared.MemoryFault.TheVariants.{Absent, Spoiled}
+use Rattle.bridge.specs.declared.faults.BurstFault.{BurstFault}
+use Rattle.bridge.specs.declared.faults.BurstFault.TheVariants.{Target, Walk}
 use Rattle.bridge.specs.declared.log.FaultLog.{FaultLog}
 use Rattle.bridge.specs.declared.log.FaultRecord.{FaultRecord}
 use Rattle.bridge.specs.Bursts.{Job, Piece, direction, failed_check, pieces, reading, writing}
@@ -13,19 +16,19 @@ use Rattle.bridge.specs.State.{State, new_state}
 use Rattle.bridge.specs.Translation.{Place, place_of, table_fault, target, unclaimed}
 
 -- a fault as the log has it
-abbrev pub fault_of : Piece → ℕ → ℕ → FaultRecord
-fault_of p number line = record { number = number; direction = direction p.job; pci = p.pci; line = line }
+abbrev pub recorded : Piece → BurstFault → FaultRecord
+recorded p fault = record { fault = fault; direction = direction p.job; pci = p.pci }
 
--- the fault that a piece meets at its target, if any: 8 where the line is absent, 9 where a read finds it spoiled
+-- the fault that a piece meets at its target, if any: its line is absent, or a read finds it spoiled
 abbrev pub target_faults : Piece → ℕ → Job → Content → List FaultRecord
-target_faults p line job absent = fault_of p 8 line ∷ []
-target_faults p line reading spoiled = fault_of p 9 line ∷ []
+target_faults p line job absent = recorded p (Target (Absent line)) ∷ []
+target_faults p line reading spoiled = recorded p (Target (Spoiled line)) ∷ []
 target_faults p line (writing words enables) spoiled = []
 target_faults p line job (good bytes) = []
 
 abbrev pub faults_at : Lines → Piece → Place → List FaultRecord
 faults_at lines p unclaimed = []
-faults_at lines p (table_fault number line) = fault_of p number line ∷ []
+faults_at lines p (table_fault fault) = recorded p (Walk fault) ∷ []
 faults_at lines p (target address) = target_faults p (address / 32) p.job (lines (address / 32))
 
 -- the faults that some pieces meet, in their order, each in the state in which it is served

@@ -2,6 +2,8 @@
 use Rattle.std.specs.Prelude.{◌≡◌, ℕ, ◌/◌, true, false, List, Some, None, Option}
 use Rattle.memory.specs.Content.{absent, bit, good, spoiled}
 use Rattle.memory.specs.Rows.{Finds}
+use Rattle.memory.specs.declared.MemoryFault.TheVariants.{Absent, Spoiled}
+use Rattle.bridge.specs.declared.faults.WalkFault.TheVariants.{Memory, NotValid}
 use Rattle.bridge.specs.declared.registers.Registers.{Registers}
 use Rattle.bridge.specs.Bits.{bits}
 use Rattle.bridge.specs.LookAside.{filled, row, row_answers}
@@ -40,11 +42,11 @@ pub data Translated (s : State) (pci : ℕ) : Located → Type 0 where
       → Translated s pci (record { look_aside = filled s.control.look_aside (pci_page pci) page; place = target (page_address page pci) })
   not_valid : (number : ℕ) (bytes : List ℕ) → Searched s pci number None → s.lines (entry_at s number pci / 32) ≡ good bytes
       → bit (entry_number bytes (entry_at s number pci)) 0 ≡ false
-      → Translated s pci (record { look_aside = s.control.look_aside; place = table_fault 5 (entry_at s number pci / 32) })
+      → Translated s pci (record { look_aside = s.control.look_aside; place = table_fault (NotValid (entry_at s number pci / 32)) })
   table_absent : (number : ℕ) → Searched s pci number None → s.lines (entry_at s number pci / 32) ≡ absent
-      → Translated s pci (record { look_aside = s.control.look_aside; place = table_fault 6 (entry_at s number pci / 32) })
+      → Translated s pci (record { look_aside = s.control.look_aside; place = table_fault (Memory (Absent (entry_at s number pci / 32))) })
   table_spoiled : (number : ℕ) → Searched s pci number None → s.lines (entry_at s number pci / 32) ≡ spoiled
-      → Translated s pci (record { look_aside = s.control.look_aside; place = table_fault 7 (entry_at s number pci / 32) })
+      → Translated s pci (record { look_aside = s.control.look_aside; place = table_fault (Memory (Spoiled (entry_at s number pci / 32))) })
 
 abbrev pub Translates : Type 0
 Translates = (s : State) (pci : ℕ) → Translated s pci (located s.control.registers s.control.look_aside s.lines pci)
