@@ -3,7 +3,7 @@
 use Rattle.std.proofs.Common.{◌≡◌, ℕ, zero, suc, ◌/◌, ◌^◌, ◌<◌, Bool, true, false, ◌⊎◌, List, [], ◌∷◌, get_or, set, Some, None, Option, sym, refl, ap, ◌∙◌, subst, inl, inr, ⊎_elim, arith, Ok, Err, Result}
 use Rattle.std.proofs.lemmas.Nat.{mod_below, shr_high, shr-shr}
 use Rattle.std.proofs.lemmas.List.{length-set}
-use Rattle.std.proofs.lemmas.Bool.{and_parts, cond_both}
+use Rattle.std.proofs.lemmas.Bool.{cond_both}
 use Rattle.memory.specs.Content.{Lines}
 use Rattle.memory.specs.Rows.{Finds, first_index}
 use Rattle.memory.specs.Searches.{first_finds}
@@ -11,7 +11,7 @@ use Rattle.bridge.specs.declared.faults.WalkFault.{WalkFault}
 use Rattle.bridge.specs.declared.look_aside.LookAside.{LookAside}
 use Rattle.bridge.specs.declared.look_aside.LookAsideRow.{LookAsideRow}
 use Rattle.bridge.specs.Bits.{bits}
-use Rattle.bridge.specs.LookAside.{cached_page, filled, page_of_row, row, row_answers, zero_row}
+use Rattle.bridge.specs.LookAside.{cached_page, filled, page_in, page_of_row, answers_in}
 use Rattle.bridge.specs.Pages.{InUse, NamedByRow, Open, line_page, page_of}
 use Rattle.bridge.specs.Registers.{window}
 use Rattle.bridge.specs.State.{State}
@@ -27,14 +27,14 @@ page_of_page_address page pci = shr_high page 13 (bits 12 0 pci) (mod_below _ (2
 
 -- a row that the search finds is in the table, and answers
 named_by_row : (t : LookAside) (n page : ℕ) → cached_page t n ≡ Some page → NamedByRow t page
-named_by_row t n page e = go (first_index (λ r. row_answers r n) t.rows) (first_finds (λ r. row_answers r n) t.rows) e
+named_by_row t n page e = go (first_index (λ r. answers_in r n) t.rows) (first_finds (λ r. answers_in r n) t.rows) e
   where
-    go : (o : Option ℕ) → Finds (λ r. row_answers r n) t.rows o → page_of_row t o ≡ Some page → NamedByRow t page
+    go : (o : Option ℕ) → Finds (λ r. answers_in r n) t.rows o → page_of_row t o ≡ Some page → NamedByRow t page
     go None f g = absurd (let z : ◌≡◌ {A = ℕ} 0 1 = cc in omega arith)
-    go (Some i) f g = let named : (row t i).page ≡ page = cc in record { index = i; within = f.0; valid = (and_parts _ _ (f.1 zero_row)).0; named = named }
+    go (Some i) f g = record { index = i; within = f.0; named = g }
 
 -- after a row is filled, a valid row names the new page, or one that a valid row named before
-set_cases : (l : List LookAsideRow) (i k : ℕ) (r d : LookAsideRow) → (get_or (set l i r) k d ≡ r) ⊎ (get_or (set l i r) k d ≡ get_or l k d)
+set_cases : (l : List (Option LookAsideRow)) (i k : ℕ) (r d : Option LookAsideRow) → (get_or (set l i r) k d ≡ r) ⊎ (get_or (set l i r) k d ≡ get_or l k d)
 set_cases [] i k r d = inr refl
 set_cases (x ∷ l) zero zero r d = inl refl
 set_cases (x ∷ l) zero (suc k) r d = inr refl
@@ -43,14 +43,16 @@ set_cases (x ∷ l) (suc i) (suc k) r d = set_cases l i k r d
 
 filled_names : (t : LookAside) (n new page : ℕ) → NamedByRow (filled t n new) page → (new ≡ page) ⊎ NamedByRow t page
 filled_names t n new page c =
-    ⊎_elim (λ e. inl (ap (λ (r : LookAsideRow). r.page) (sym e) ∙ c.named))
+    ⊎_elim (λ e. inl (some_page (ap page_in (sym e) ∙ c.named)))
     (λ e. inr (record {
       index = c.index;
       within = subst (λ k. c.index < k) (length-set t.rows t.pointer _) c.within;
-      valid = ap (λ (r : LookAsideRow). r.valid) (sym e) ∙ c.valid;
-      named = ap (λ (r : LookAsideRow). r.page) (sym e) ∙ c.named;
+      named = ap page_in (sym e) ∙ c.named;
     }))
-    (set_cases t.rows t.pointer c.index _ zero_row)
+    (set_cases t.rows t.pointer c.index _ None)
+  where
+    some_page : Some new ≡ Some page → new ≡ page
+    some_page e = cc
 
 -- a physical address lies in an open page
 abbrev pub InOpen : State → Place → Type 0

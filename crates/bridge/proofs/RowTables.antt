@@ -5,12 +5,12 @@ use native.Mathlib.Bridge.{le_prop}
 use Rattle.memory.specs.Rows.{Finds}
 use Rattle.memory.specs.Searches.{finds_first}
 use Rattle.bridge.specs.declared.look_aside.LookAside.{LookAside}
-use Rattle.bridge.specs.LookAside.{cached_page, page_of_row, row_answers}
+use Rattle.bridge.specs.LookAside.{cached_page, page_of_row, answers_in}
 
 -- two tables are equal where their rows and pointers are: that the pointer is below 8 has one proof at most
 pub equal_rows : (t u : LookAside) → t.rows ≡ u.rows → t.pointer ≡ u.pointer → t ≡ u
 equal_rows t u e f = λ j. record { rows = e j; pointer = f j; below = is_prop→PathP (λ k. f k < 8) (λ k. le_prop) t.below u.below j }
 
 -- the row that the search finds names the page
-pub cached_by : (t : LookAside) (n : ℕ) (o : Option ℕ) → Finds (λ r. row_answers r n) t.rows o → page_of_row t o ≡ cached_page t n
-cached_by t n o f = ap (page_of_row t) (finds_first (λ r. row_answers r n) t.rows o f)
+pub cached_by : (t : LookAside) (n : ℕ) (o : Option ℕ) → Finds (λ r. answers_in r n) t.rows o → page_of_row t o ≡ cached_page t n
+cached_by t n o f = ap (page_of_row t) (finds_first (λ r. answers_in r n) t.rows o f)

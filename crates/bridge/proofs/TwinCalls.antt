@@ -1,5 +1,5 @@
 -- Lists of calls, in two runs at once.
-use Rattle.std.proofs.Common.{◌≡◌, ℕ, zero, suc, ◌*◌, ◌/◌, ◌≤◌, Bool, true, false, cond, eqb, List, ◌∷◌, length, get_or, take, replicate, sym, refl, ap, ◌∙◌, subst, ap₂, ⊎_elim, arith}
+use Rattle.std.proofs.Common.{◌≡◌, ℕ, zero, suc, ◌*◌, ◌/◌, ◌≤◌, Bool, true, false, cond, eqb, List, ◌∷◌, length, get_or, take, replicate, Some, None, sym, refl, ap, ◌∙◌, subst, ap₂, ⊎_elim, arith}
 use Rattle.std.proofs.lemmas.Bool.{both_ways, cases_Bool, cond_both, cond-false, ne_eqb}
 use Rattle.std.proofs.lemmas.Bool.Decides.{nat_tests}
 use Rattle.std.specs.List.{AllByRecursion}
@@ -7,7 +7,7 @@ use Rattle.memory.specs.Content.{Bounded, Content, Lawful, Lines, absent, all_on
 use Rattle.memory.specs.LinesAt.{merged_full}
 use Rattle.bridge.specs.Calls.{Call, Request, card, control_after, decode, is_burst, lines_after, load, log_clear, log_read, performed, processor, register_read, register_write, store}
 use Rattle.bridge.specs.Isolation.{AllAlike, Alike, CarriesALine, Hidden, Isolated, IsolatedRuns, Isolation, Protected, ProtectedThroughout, SameBurst, hidden_stores, more_calls, no_calls, replaced, same_call, stored_by, stored_by_all}
-use Rattle.bridge.specs.LookAside.{zero_row}
+use Rattle.bridge.specs.LookAside.{page_in}
 use Rattle.bridge.specs.Pages.{Closed, Held, NamedByEntry, NamedByRow, PlainlyReached, line_page}
 use Rattle.bridge.specs.Processor.{no_line}
 use Rattle.bridge.specs.Registers.{window, zero_registers, zero_window}
@@ -137,14 +137,14 @@ none_held m number pci h =
     let same : window zero_registers number ≡ zero_window = cond_both (eqb number 1) _ _ (λ w. w ≡ zero_window) (λ _. refl) (λ _. refl) in
     both_ways (holds zero_window pci) refl (ap (λ w. holds w pci) (sym same) ∙ h.held)
 
-pub none_valid : (n index : ℕ) → (get_or (replicate n zero_row) index zero_row).valid ≡ true → ⊥
-none_valid zero index h = both_ways _ refl h
-none_valid (suc n) zero h = both_ways _ refl h
-none_valid (suc n) (suc index) h = none_valid n index h
+pub none_valid : (n index page : ℕ) → page_in (get_or (replicate n None) index None) ≡ Some page → ⊥
+none_valid zero index page h = absurd (let z : ◌≡◌ {A = ℕ} 0 1 = cc in omega arith)
+none_valid (suc n) zero page h = absurd (let z : ◌≡◌ {A = ℕ} 0 1 = cc in omega arith)
+none_valid (suc n) (suc index) page h = none_valid n index page h
 
 none_open : (m : Lines) (page : ℕ) → Closed (new_state m) page
 none_open m page o =
-    ⊎_elim (λ (p : PlainlyReached _ _). none_held m _ _ p.held) (λ r. ⊎_elim (λ (n : NamedByEntry _ _ _). none_held m _ _ n.in_use.held) (λ (c : NamedByRow _ _). none_valid 8 c.index c.valid) r) o
+    ⊎_elim (λ (p : PlainlyReached _ _). none_held m _ _ p.held) (λ r. ⊎_elim (λ (n : NamedByEntry _ _ _). none_held m _ _ n.in_use.held) (λ (c : NamedByRow _ _). none_valid 8 c.index page c.named) r) o
 
 pub isolation : Isolation
 isolation m w lm lw hidden cs ds outside alike zs zt premise =

@@ -1,9 +1,9 @@
 -- Which pages are open to the cards.
-use Rattle.std.specs.Prelude.{◌≡◌, ℕ, ◌/◌, ◌^◌, ◌<◌, true, false, Ok, ◌⊎◌, length}
+use Rattle.std.specs.Prelude.{◌≡◌, ℕ, ◌/◌, ◌^◌, ◌<◌, true, false, Some, Ok, ◌⊎◌, length}
 use Rattle.memory.specs.Content.{Lines}
 use Rattle.bridge.specs.declared.look_aside.LookAside.{LookAside}
 use Rattle.bridge.specs.declared.registers.Registers.{Registers}
-use Rattle.bridge.specs.LookAside.{row}
+use Rattle.bridge.specs.LookAside.{page_in, row}
 use Rattle.bridge.specs.Registers.{window}
 use Rattle.bridge.specs.State.{State}
 use Rattle.bridge.specs.Translation.{entry_of}
@@ -47,8 +47,7 @@ pub record NamedByEntry (r : Registers) (lines : Lines) (page : ℕ) : Type 0 wh
 pub record NamedByRow (t : LookAside) (page : ℕ) : Type 0 where
   pub index : ℕ
   pub within : index < length t.rows
-  pub valid : (row t index).valid ≡ true
-  pub named : (row t index).page ≡ page
+  pub named : page_in (row t index) ≡ Some page
 
 abbrev pub Open : State → ℕ → Type 0
 Open s page = PlainlyReached s.control.registers page ⊎ (NamedByEntry s.control.registers s.lines page ⊎ NamedByRow s.control.look_aside page)

@@ -7,7 +7,7 @@ use Rattle.bridge.specs.declared.registers.RegisterRefusal.{RegisterRefusal}
 use Rattle.bridge.specs.declared.registers.RegisterRefusal.TheVariants.{NotListed, ReadOnly}
 use Rattle.bridge.specs.declared.registers.Window.{Window}
 use Rattle.bridge.specs.declared.registers.Registers.{Registers}
-use Rattle.bridge.specs.Bits.{bits, bits_kept, flag, in_range}
+use Rattle.bridge.specs.Bits.{bits, bits_kept, in_range}
 use Rattle.bridge.specs.LookAside.{row, zero_rows}
 
 abbrev pub zero_window : Window
@@ -52,12 +52,15 @@ register_named n =
     (cond (in_range 24 31 n) (Some (row_data (n - 24)))
     (cond (n == 32) (Some invalidate_all) None))))))))
 
--- a tag has the PCI page in bits 31:13 and the valid bit 12, a data register the page number in bits 20:1
-abbrev pub tag_value : LookAsideRow → ℕ
-tag_value r = bits 18 0 r.pci_page * 2 ^ 13 + flag r.valid * 2 ^ 12
+-- a valid row's tag has the PCI page in bits 31:13 and 1 in bit 12, its data register the page number in bits 20:1; a row that
+-- is not valid reads 0 in both
+abbrev pub tag_value : Option LookAsideRow → ℕ
+tag_value None = 0
+tag_value (Some r) = bits 18 0 r.pci_page * 2 ^ 13 + 2 ^ 12
 
-abbrev pub data_value : LookAsideRow → ℕ
-data_value r = bits 19 0 r.page * 2
+abbrev pub data_value : Option LookAsideRow → ℕ
+data_value None = 0
+data_value (Some r) = bits 19 0 r.page * 2
 
 abbrev pub register_value : Registers → LookAside → Register → ℕ
 register_value r t (translated_base number) = (window r number).translated

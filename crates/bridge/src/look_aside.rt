@@ -4,18 +4,17 @@ pub(crate) mod table;
 
 ghost use Rattle.std.specs.Prelude.{◌<◌};
 
-// A row that is valid says which page a PCI page lies in.
+// A valid row: which page a PCI page lies in.
 #[derive(Clone, Copy)]
 pub struct LookAsideRow {
-    valid: bool,
     pci_page: u32,
     page: u32,
 }
 
-// Eight rows, and the one that is filled next.
+// Eight rows, each valid or not, and the one that is filled next.
 #[derive(Clone, Copy)]
 pub struct LookAside {
-    rows: [LookAsideRow; 8],
+    rows: [Option<LookAsideRow>; 8],
     pointer: usize,
     ghost below: { pointer < 8 },
 }

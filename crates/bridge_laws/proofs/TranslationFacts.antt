@@ -3,7 +3,7 @@ use Rattle.std.proofs.Common.{◌≡◌, ℕ, ◌/◌, Bool, true, false, Some, 
 use Rattle.std.proofs.lemmas.Bool.{cases_Bool, cond-false, cond-true}
 use Rattle.memory.specs.Content.{Content, absent, bit, good, spoiled}
 use Rattle.memory.specs.Searches.{first_finds}
-use Rattle.bridge.specs.LookAside.{page_of_row, row_answers}
+use Rattle.bridge.specs.LookAside.{page_of_row, answers_in}
 use Rattle.bridge.specs.Registers.{window}
 use Rattle.bridge.specs.State.{State}
 use Rattle.bridge_laws.specs.Translated.{FirstHolder, Searched, Translated, Translates, by_entry, by_none, by_plain_window, by_row, entry_at, not_valid, table_absent, table_spoiled, window_1, window_2}
@@ -26,7 +26,7 @@ module _ (s : State) (pci number : ℕ) (holder : FirstHolder s.control.register
   by_found (Some i) f = by_row number i f
 
   by_window : (b : Bool) → mapped (window s.control.registers number) ≡ b → Translated s pci (located_by_window s.control.look_aside s.lines pci (window s.control.registers number) b)
-  by_window true m = by_found _ (record { holder = holder; is_mapped = m; finds = first_finds (λ r. row_answers r (pci_page pci)) s.control.look_aside.rows })
+  by_window true m = by_found _ (record { holder = holder; is_mapped = m; finds = first_finds (λ r. answers_in r (pci_page pci)) s.control.look_aside.rows })
   by_window false m = by_plain_window number holder m
 
 pub translates : Translates

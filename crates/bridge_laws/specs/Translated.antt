@@ -6,7 +6,7 @@ use Rattle.memory.specs.declared.MemoryFault.TheVariants.{Absent, Spoiled}
 use Rattle.bridge.specs.declared.faults.WalkFault.TheVariants.{Memory, NotValid}
 use Rattle.bridge.specs.declared.registers.Registers.{Registers}
 use Rattle.bridge.specs.Bits.{bits}
-use Rattle.bridge.specs.LookAside.{filled, row, row_answers}
+use Rattle.bridge.specs.LookAside.{filled, row, answers_in}
 use Rattle.bridge.specs.Registers.{window}
 use Rattle.bridge.specs.State.{State}
 use Rattle.bridge.specs.Translation.{Located, entry_number, located, page_address, pci_page, table_fault, target, unclaimed}
@@ -21,7 +21,7 @@ pub data FirstHolder (r : Registers) (pci : ℕ) : ℕ → Type 0 where
 pub record Searched (s : State) (pci number : ℕ) (found : Option ℕ) : Type 0 where
   pub holder : FirstHolder s.control.registers pci number
   pub is_mapped : mapped (window s.control.registers number) ≡ true
-  pub finds : Finds (λ r. row_answers r (pci_page pci)) s.control.look_aside.rows found
+  pub finds : Finds (λ r. answers_in r (pci_page pci)) s.control.look_aside.rows found
 
 -- the address of the table's entry for a PCI address, under the window of a number
 abbrev pub entry_at : State → ℕ → ℕ → ℕ

@@ -19,3 +19,8 @@ Finds answers rows (Some i) = (i < length rows) × HoldsAt (λ row. answers row 
 pub record FoundOnce {X : Type 0} (answers : X → Bool) (rows : List X) : Type 0 where
   pub some : Finds answers rows (first_index answers rows)
   pub only : (o : Option ℕ) → Finds answers rows o → o ≡ first_index answers rows
+
+-- a place for a row answers as the row that it holds; an empty one answers for nothing
+abbrev pub held_answers : {R : Type 0} → (R → ℕ → Bool) → Option R → ℕ → Bool
+held_answers answers None n = false
+held_answers answers (Some row) n = answers row n

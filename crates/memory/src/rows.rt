@@ -1,6 +1,6 @@
 // One search for every kind of row: banks, marks, look-aside rows.
 ghost use Rattle.std.specs.Prelude.{◌≡◌, ℕ, Bool};
-ghost use Rattle.memory.specs.Rows.{Finds, FoundOnce};
+ghost use Rattle.memory.specs.Rows.{Finds, FoundOnce, held_answers};
 
 // A kind of row says for which numbers it answers.
 pub trait Row {
@@ -8,6 +8,15 @@ pub trait Row {
 
     fn answers(&self, n: u64) -> bool
         ensures { result ≡ answers self.now n };
+}
+
+// A place for a row answers as the row that it holds.
+impl<R: Row> Row for Option<R> {
+    ghost answers = { held_answers R.Row.answers };
+
+    fn answers(&self, n: u64) -> bool {
+        self.as_ref().is_some_and(|row| row.answers(n))
+    }
 }
 
 // The index of the first row that answers for n; none exactly if no row does.
