@@ -10,7 +10,8 @@ use Rattle.bridge.specs.BurstAnswers.{read_answered, write_answered}
 use Rattle.bridge.specs.Bursts.{Burst, failed_check, pieces}
 use Rattle.bridge.specs.Log.{empty_log, reading_values}
 use Rattle.bridge.specs.Processor.{decode_answer, lines_stored, load_answer, store_answer}
-use Rattle.bridge.specs.Registers.{Register, register_named, register_read_answer, register_write_answer, registers_written, rows_written}
+use Rattle.bridge.specs.declared.registers.Register.{Register}
+use Rattle.bridge.specs.Registers.{register_named, register_read_answer, register_write_answer, registers_written, rows_written}
 use Rattle.bridge.specs.Runs.{Run, burst_answer, burst_buffer, lent_buffer, run}
 use Rattle.bridge.specs.State.{Control, State}
 

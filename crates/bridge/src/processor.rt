@@ -11,7 +11,7 @@ ghost use Rattle.bridge.specs.declared.registers.RegisterRefusal.TheVariants.{No
 use crate::Bridge;
 use crate::line::BLANK;
 use crate::look_aside::LookAside;
-use crate::registers::RegisterRefusal;
+use crate::registers::{Register, RegisterRefusal};
 use memory::refusals::Refusal;
 use memory::{Memory, MemoryFault};
 
@@ -58,7 +58,8 @@ impl<M: Memory> Bridge<M> {
         ensures answer { answered (λ value. value ∷ []) register_cause result ≡ (performed (state_of M.Memory.content self.now) (processor (register_read n))).answer }
         ensures which { IfErr result (λ e. e ≡ NotListed) }
     {
-        self.registers.read(&self.look_aside, n)
+        let register = Register::try_from(n)?;
+        Ok(self.registers.read(&self.look_aside, register))
     }
 
     // Writes a register, which drops the bits that it does not keep. 32 zeroes the look-aside rows and their pointer.
@@ -67,8 +68,9 @@ impl<M: Memory> Bridge<M> {
         ensures which { IfErr result (λ e. e ≡ write_refusal (register_named n)) }
         ensures after { state_of M.Memory.content self.new ≡ (performed (state_of M.Memory.content self.old) (processor (register_write n value))).state }
     {
-        self.registers.write(n, value)?;
-        if n == 32 {
+        let register = Register::try_from(n)?;
+        self.registers.write(register, value)?;
+        if register == Register::InvalidateAll {
             self.look_aside = LookAside::zero();
         }
         Ok(())

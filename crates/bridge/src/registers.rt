@@ -1,24 +1,22 @@
 // The registers that the processor writes.
 mod windows;
 
-ghost use Rattle.std.specs.Prelude.{◌≡◌, [], ◌∷◌, IfErr};
-ghost use Rattle.memory.specs.Answers.{answered, no_values};
+ghost use Rattle.std.specs.Prelude.{◌≡◌, ◌<◌};
 ghost use Rattle.bridge.specs.Bits.{bits_kept};
-ghost use Rattle.bridge.specs.Registers.{register_cause, register_named, register_read_answer, register_write_answer, registers_after, with_base, with_mask, with_translated, write_refusal, zero_registers};
-ghost use Rattle.bridge.specs.declared.registers.RegisterRefusal.TheVariants.{NotListed};
+ghost use Rattle.bridge.specs.Registers.{listed, register_cause, register_named, register_value, registers_written, with_base, with_mask, with_translated, write_result, zero_registers};
 
 use crate::look_aside::LookAside;
 use memory::refusals::Refusal;
 
 // One window, as its three registers hold it.
-#[derive(Clone, Copy)]
+#[derive(Clone, Copy, Default)]
 pub struct Window {
     base: u32,
     mask: u32,
     translated: u32,
 }
 
-#[derive(Clone, Copy)]
+#[derive(Clone, Copy, Default)]
 pub struct Registers {
     first: Window,
     second: Window,
@@ -26,11 +24,20 @@ pub struct Registers {
     haxr2: u32,
 }
 
-const ZERO_WINDOW: Window = Window {
-    base: 0,
-    mask: 0,
-    translated: 0,
-};
+// A register by what it holds: three of each window by its number, the three host address extension registers, a tag and a
+// data register of each look-aside row by its index, and the one that invalidates all rows.
+#[derive(Clone, Copy, Debug, PartialEq)]
+pub enum Register {
+    TranslatedBase(u8),
+    PciBase(u8),
+    PciMask(u8),
+    Haxr0,
+    Haxr1,
+    Haxr2,
+    RowTag(usize),
+    RowData(usize),
+    InvalidateAll,
+}
 
 // Why a register call is refused: the number names no register, or a write names one that can only be read.
 #[derive(Clone, Copy, Debug, PartialEq)]
@@ -49,82 +56,100 @@ impl Refusal for RegisterRefusal {
     }
 }
 
+// The register of a number.
+impl TryFrom<u64> for Register {
+    type Error = RegisterRefusal;
+
+    ghost try_from_gives = { λ n r. r ≡ listed (register_named n) };
+
+    fn try_from(n: u64) -> Result<Register, RegisterRefusal> {
+        match n {
+            6..=7 => Ok(Register::TranslatedBase((n - 5) as u8)),
+            8..=9 => Ok(Register::PciBase((n - 7) as u8)),
+            10..=11 => Ok(Register::PciMask((n - 9) as u8)),
+            12 => Ok(Register::Haxr0),
+            13 => Ok(Register::Haxr1),
+            14 => Ok(Register::Haxr2),
+            16..=23 => Ok(Register::RowTag((n - 16) as usize)),
+            24..=31 => Ok(Register::RowData((n - 24) as usize)),
+            32 => Ok(Register::InvalidateAll),
+            _ => Err(RegisterRefusal::NotListed),
+        }
+    }
+}
+
+// Bits 31:low, at their place.
+fn bits_from(low: u32, value: u32) -> u32
+    requires { low < 32 }
+    ensures { result ≡ bits_kept 31 low value }
+{
+    (value >> low) << low
+}
+
 impl Window {
     // Keeps bits 31:9.
     fn set_translated(&mut self, value: u32)
         ensures { self.new ≡ with_translated self.old (bits_kept 31 9 value) }
     {
-        self.translated = (value >> 9) << 9;
+        self.translated = bits_from(9, value);
     }
 
     // Keeps bits 31:18: the base, the enable and the mapped bit.
     fn set_base(&mut self, value: u32)
         ensures { self.new ≡ with_base self.old (bits_kept 31 18 value) }
     {
-        self.base = (value >> 18) << 18;
+        self.base = bits_from(18, value);
     }
 
     // Keeps bits 31:20.
     fn set_mask(&mut self, value: u32)
         ensures { self.new ≡ with_mask self.old (bits_kept 31 20 value) }
     {
-        self.mask = (value >> 20) << 20;
+        self.mask = bits_from(20, value);
     }
 }
 
 impl Registers {
-    // Writes a register of the bridge's own record; 12 keeps nothing, and 32 is the rows' affair.
-    pub(crate) fn write(&mut self, n: u64, value: u32) -> Result<(), RegisterRefusal>
-        ensures answer { answered no_values register_cause result ≡ register_write_answer (register_named n) }
-        ensures which { IfErr result (λ e. e ≡ write_refusal (register_named n)) }
-        ensures after { self.new ≡ registers_after self.old (register_named n) value }
-    {
-        match n {
-            6 => self.first.set_translated(value),
-            7 => self.second.set_translated(value),
-            8 => self.first.set_base(value),
-            9 => self.second.set_base(value),
-            10 => self.first.set_mask(value),
-            11 => self.second.set_mask(value),
-            13 => self.haxr1 = (value >> 27) << 27,
-            14 => self.haxr2 = ((value >> 24) << 24) + value % 4,
-            16..=31 => return Err(RegisterRefusal::ReadOnly),
-            12 | 32 => {}
-            _ => return Err(RegisterRefusal::NotListed),
-        }
-        Ok(())
-    }
-
-    // What a register reads; the rows have theirs.
-    pub(crate) fn read(&self, look_aside: &LookAside, n: u64) -> Result<u32, RegisterRefusal>
-        ensures answer { answered (λ value. value ∷ []) register_cause result ≡ register_read_answer self.now look_aside.now (register_named n) }
-        ensures which { IfErr result (λ e. e ≡ NotListed) }
-    {
-        match n {
-            6 => Ok(self.first.translated),
-            7 => Ok(self.second.translated),
-            8 => Ok(self.first.base),
-            9 => Ok(self.second.base),
-            10 => Ok(self.first.mask),
-            11 => Ok(self.second.mask),
-            13 => Ok(self.haxr1),
-            14 => Ok(self.haxr2),
-            16..=23 => Ok(look_aside.tag((n - 16) as usize)),
-            24..=31 => Ok(look_aside.data_of((n - 24) as usize)),
-            12 | 32 => Ok(0),
-            _ => Err(RegisterRefusal::NotListed),
-        }
-    }
-
     // Every register is 0.
     pub(crate) fn zero() -> Registers
         ensures { result ≡ zero_registers }
     {
-        Registers {
-            first: ZERO_WINDOW,
-            second: ZERO_WINDOW,
-            haxr1: 0,
-            haxr2: 0,
+        Registers::default()
+    }
+
+    // Keeps the bits that a register names. HAXR0 has none, and the rows are not in this record.
+    pub(crate) fn write(&mut self, register: Register, value: u32) -> Result<(), RegisterRefusal>
+        ensures answer { result ≡ write_result register }
+        ensures after { self.new ≡ registers_written self.old register value }
+    {
+        match register {
+            Register::TranslatedBase(1) => self.first.set_translated(value),
+            Register::TranslatedBase(_) => self.second.set_translated(value),
+            Register::PciBase(1) => self.first.set_base(value),
+            Register::PciBase(_) => self.second.set_base(value),
+            Register::PciMask(1) => self.first.set_mask(value),
+            Register::PciMask(_) => self.second.set_mask(value),
+            Register::Haxr1 => self.haxr1 = bits_from(27, value),
+            Register::Haxr2 => self.haxr2 = bits_from(24, value) + value % 4,
+            Register::RowTag(_) | Register::RowData(_) => return Err(RegisterRefusal::ReadOnly),
+            Register::Haxr0 | Register::InvalidateAll => {}
+        }
+        Ok(())
+    }
+
+    // What a register reads, with the look-aside rows that have the rest.
+    pub(crate) fn read(&self, look_aside: &LookAside, register: Register) -> u32
+        ensures { result ≡ register_value self.now look_aside.now register }
+    {
+        match register {
+            Register::TranslatedBase(number) => self.window(number).translated,
+            Register::PciBase(number) => self.window(number).base,
+            Register::PciMask(number) => self.window(number).mask,
+            Register::Haxr1 => self.haxr1,
+            Register::Haxr2 => self.haxr2,
+            Register::RowTag(i) => look_aside.tag(i),
+            Register::RowData(i) => look_aside.data_of(i),
+            Register::Haxr0 | Register::InvalidateAll => 0,
         }
     }
 
