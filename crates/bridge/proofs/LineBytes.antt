@@ -1,7 +1,7 @@
 -- What a card write puts into a line: bytes and masks.
-use Rattle.std.proofs.Common.{◌≡◌, ℕ, zero, suc, ◌+◌, ◌-◌, ◌*◌, ◌/◌, ◌%◌, ◌^◌, ◌<◌, ◌≤◌, false, ltb, List, [], ◌∷◌, length, get_or, drop, sym, refl, ap, ◌∙◌, arith, pow_mono}
+use Rattle.std.proofs.Common.{◌≡◌, ℕ, zero, suc, ◌+◌, ◌-◌, ◌*◌, ◌/◌, ◌%◌, ◌^◌, ◌<◌, ◌≤◌, false, ltb, List, [], ◌∷◌, length, get_or, take, drop, sym, refl, ap, ◌∙◌, arith, pow_mono}
 use Rattle.std.proofs.lemmas.Bool.{or_parts, ltb-false}
-use Rattle.std.proofs.lemmas.List.{get_or_past, at_drop_more, length-drop}
+use Rattle.std.proofs.lemmas.List.{get_or_past, take_all}
 use Rattle.std.proofs.lemmas.Nat.{pow-add}
 use Rattle.bridge.specs.Bursts.{wide_enable}
 use Rattle.bridge.specs.Longwords.{byte_of, enable_bits, word_bytes}
@@ -32,22 +32,12 @@ wide_drop es zero h = h
 wide_drop [] (suc i) h = h
 wide_drop (e ∷ es) (suc i) h = wide_drop es i (or_parts (ltb 15 e) (wide_enable es) h).1
 
--- one more longword's mask, from the end
-pub mask_step : (es : List ℕ) (i : ℕ) → 0 < i → i ≤ length es → 16 * enable_bits (drop i es) + get_or es (i - 1) 0 ≡ enable_bits (drop (i - 1) es)
-mask_step es i p h =
-    let e : i - 1 + 1 ≡ i = omega arith in
-    let m = at_drop_more enable_bits es (i - 1) 0 (omega arith) in
-    omega (arith, rw e at m)
+pub bits_fit : (es : List ℕ) → length es ≤ 8 → wide_enable es ≡ false → enable_bits es < 2 ^ 32
+bits_fit es few narrow =
+    let q : 4 * length es ≤ 32 = omega (arith, few) in
+    omega (arith, mask_below es narrow, pow_mono q)
 
-pub mask_fits : (es : List ℕ) (i : ℕ) → length es ≤ 8 → wide_enable es ≡ false → enable_bits (drop i es) < 2 ^ 32
-mask_fits es i l h =
-    let b = mask_below (drop i es) (wide_drop es i h) in
-    let q : 4 * length (drop i es) ≤ 32 = simp length-drop (omega arith) in
-    omega (arith, b, pow_mono q)
-
-pub mask_turn : (es : List ℕ) (i mask e : ℕ) → 0 < i → i ≤ length es → length es ≤ 8 → wide_enable es ≡ false → mask ≡ enable_bits (drop i es) → e ≡ get_or es (i - 1) 0
-    → (16 * mask + e ≡ enable_bits (drop (i - 1) es)) × (16 * mask + e < 2 ^ 32)
-mask_turn es i mask e p h l w m g =
-    let s = mask_step es i p h in
-    let q : 16 * mask + e ≡ enable_bits (drop (i - 1) es) = rw (m, g) s in
-    (q, omega (arith, q, mask_fits es (i - 1) l w))
+-- the bits of the first number, and those of the rest
+pub bits_by_first : (es : List ℕ) → 1 ≤ length es → get_or es 0 0 + 16 * enable_bits (take (length es - 1) (drop 1 es)) ≡ enable_bits es
+bits_by_first [] h = absurd (omega arith)
+bits_by_first (e ∷ es) h = ap (λ l. e + 16 * enable_bits l) (take_all (suc (length es) - 1) es (omega arith))

@@ -11,10 +11,10 @@ use Rattle.bridge.specs.declared.faults.BurstFault.{BurstFault}
 use Rattle.bridge.specs.declared.log.FaultLog.{FaultLog}
 use Rattle.bridge.specs.declared.look_aside.LookAside.{LookAside}
 use Rattle.bridge.specs.BurstAnswers.{tallied}
-use Rattle.bridge.specs.Bursts.{Burst, Job, Piece, card_write, in_line, is_unclaimed, piece_to_write, pieces, third_check, wide_enable, writing}
+use Rattle.bridge.specs.Bursts.{Piece, card_write, in_line, is_unclaimed, piece_to_write, third_check, wide_enable, writing}
 use Rattle.bridge.specs.Calls.{burst_outcome, write_outcome}
 use Rattle.bridge.specs.Pieces.{Edit, PieceOutcome, PieceReply, after_piece, no_window, outcome_by_write, outcome_claimed, read_ended, words_dismissed, words_moved, words_stored}
-use Rattle.bridge.specs.Runs.{answer_of_write, counted, ends, met_no_window, run}
+use Rattle.bridge.specs.Runs.{answer_of_write, counted, ends, met_no_window}
 use Rattle.bridge.specs.State.{State}
 use Rattle.bridge.specs.Windows.{claim}
 use Rattle.bridge.proofs.BurstRuns.{GoesOn, Progress, finish, held_outcome, piece_at, start, step, stop_unheld, unheld_outcome}

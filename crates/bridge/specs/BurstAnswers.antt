@@ -1,5 +1,5 @@
 -- What the code answers to a burst, by number and values.
-use Rattle.std.specs.Prelude.{ℕ, ◌+◌, Bool, true, false, List, [], ◌∷◌, Result}
+use Rattle.std.specs.Prelude.{ℕ, ◌+◌, Bool, true, false, [], ◌∷◌, Result}
 use Rattle.memory.specs.Answers.{Answer, Cause, answered, bare, no_values}
 use Rattle.bridge.specs.declared.bursts.BurstRefusal.{BurstRefusal}
 use Rattle.bridge.specs.declared.bursts.BurstRefusal.TheVariants.{Alignment, Bounds, Ended, Unclaimed}

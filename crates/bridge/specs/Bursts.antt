@@ -1,5 +1,6 @@
 -- Card bursts: how one is checked, and how it is cut into the longwords of one line each.
 use Rattle.std.specs.Prelude.{ℕ, zero, suc, ◌+◌, ◌-◌, ◌*◌, ◌^◌, min, Bool, true, false, cond, not, ◌||◌, List, [], ◌∷◌, length, take, drop, Some, None, Option, ◌==◌, nat_lt}
+use Rattle.std.specs.List.{list_any}
 use Rattle.bridge.specs.declared.log.Direction.{Direction}
 use Rattle.bridge.specs.declared.log.Direction.TheVariants.{Read, Write}
 use Rattle.bridge.specs.declared.registers.Registers.{Registers}
@@ -21,8 +22,7 @@ abbrev pub wrong_count : ℕ → ℕ → List ℕ → Bool
 wrong_count pci count buffer = count == 0 || (nat_lt 64 count || (nat_lt (length buffer) count || nat_lt (2 ^ 32) (pci + 4 * count)))
 
 abbrev pub wide_enable : List ℕ → Bool
-wide_enable [] = false
-wide_enable (e ∷ enables) = nat_lt 15 e || wide_enable enables
+wide_enable enables = list_any (λ e. nat_lt 15 e) enables
 
 abbrev pub out_of_bounds : Burst → Bool
 out_of_bounds (card_read pci count buffer) = wrong_count pci count buffer

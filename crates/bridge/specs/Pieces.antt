@@ -10,8 +10,7 @@ use Rattle.bridge.specs.Bursts.{Job, Piece, direction, reading, writing}
 use Rattle.bridge.specs.Log.{logged}
 use Rattle.bridge.specs.Longwords.{line_bytes, line_mask, longwords}
 use Rattle.bridge.specs.State.{Control, State}
-use Rattle.bridge.specs.Registers.{window}
-use Rattle.bridge.specs.Translation.{Located, Place, located, located_by_window, table_fault, target, unclaimed}
+use Rattle.bridge.specs.Translation.{Located, Place, located, located_claimed, table_fault, target, unclaimed}
 
 -- what is written: nothing, or the masked bytes of one line
 pub data Edit : Type 0 where
@@ -82,7 +81,7 @@ outcome_located log lines p l = outcome_at_place l.look_aside log lines p l.plac
 
 -- the same of a piece that a window claims, by its number and whether it is mapped
 abbrev pub outcome_claimed : State → Piece → ℕ → Bool → PieceOutcome
-outcome_claimed s p number mapped = outcome_located s.control.log s.lines p (located_by_window s.control.look_aside s.lines p.pci (window s.control.registers number) mapped)
+outcome_claimed s p number mapped = outcome_located s.control.log s.lines p (located_claimed s p.pci number mapped)
 
 -- what the code's answer for a piece stands for, with the rows that it leaves: of a read the longwords, of a write the edit
 abbrev pub outcome_by_read : LookAside → FaultLog → Piece → List ℕ → Result Unit BurstFault → PieceOutcome

@@ -61,6 +61,10 @@ abbrev pub located_by_window : LookAside → Lines → ℕ → Window → Bool �
 located_by_window t lines pci w true = located_by_row t lines pci (entry_address w pci) (cached_page t (pci_page pci))
 located_by_window t lines pci w false = record { look_aside = t; place = target (plain_address w pci) }
 
+-- the same in a state, under the window of a number
+abbrev pub located_claimed : State → ℕ → ℕ → Bool → Located
+located_claimed s pci number mapped = located_by_window s.control.look_aside s.lines pci (window s.control.registers number) mapped
+
 abbrev pub located_by_claim : Registers → LookAside → Lines → ℕ → Option (ℕ × Bool) → Located
 located_by_claim r t lines pci None = record { look_aside = t; place = unclaimed }
 located_by_claim r t lines pci (Some claimed) = located_by_window t lines pci (window r claimed.0) claimed.1

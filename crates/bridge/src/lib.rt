@@ -4,6 +4,7 @@
 pub mod bursts;
 pub mod calls;
 pub mod decode;
+mod enables;
 pub mod faults;
 mod line;
 pub mod log;

@@ -13,6 +13,7 @@ use crate::bursts::{BurstRefusal, ReadEnd, ReadRefusal, count_is_wrong, in_line,
 use crate::faults::BurstFault;
 use crate::line::{BLANK, longword};
 use crate::log::{Direction, FaultRecord};
+use crate::walk::Claimed;
 use memory::Memory;
 
 // Fills `words` with the longwords from an offset of a line on.
@@ -27,19 +28,13 @@ fn take_longwords(line: &[u8; 32], offset: usize, words: &mut [u32])
 
 impl<M: Memory> Bridge<M> {
     // Reads longwords that lie in one line, at an address that a window claims. A fault leaves them as they were.
-    fn read_line(
-        &mut self,
-        number: u8,
-        mapped: bool,
-        pci: u32,
-        words: &mut [u32],
-    ) -> Result<(), BurstFault>
-        requires { (pci % 4 ≡ 0) × (bits 4 2 pci + length words.old ≤ 8) }
-        ensures outcome { outcome_by_read self.new.look_aside self.old.log (piece_to_read pci words.old) words.new result ≡ outcome_claimed (state_of M.Memory.content self.old) (piece_to_read pci words.old) number mapped }
+    fn read_line(&mut self, claimed: Claimed, words: &mut [u32]) -> Result<(), BurstFault>
+        requires { bits 4 2 claimed.pci + length words.old ≤ 8 }
+        ensures outcome { outcome_by_read self.new.look_aside self.old.log (piece_to_read claimed.pci words.old) words.new result ≡ outcome_claimed (state_of M.Memory.content self.old) (piece_to_read claimed.pci words.old) claimed.number claimed.mapped }
         ensures kept { OnErr result (words.new ≡ words.old) }
         ensures after { state_of M.Memory.content self.new ≡ with_rows self.new.look_aside (state_of M.Memory.content self.old) }
     {
-        let address = self.translate(number, mapped, pci)?;
+        let address = self.translate(claimed)?;
         let mut line = BLANK;
         self.memory.read(address / 32, &mut line)?;
         take_longwords(&line, (address % 32) as usize, words);
@@ -49,22 +44,20 @@ impl<M: Memory> Bridge<M> {
     // Reads a piece of a burst, and logs its fault.
     pub(crate) fn read_piece(
         &mut self,
-        number: u8,
-        mapped: bool,
-        pci: u32,
+        claimed: Claimed,
         words: &mut [u32],
     ) -> Result<(), BurstFault>
-        requires { (pci % 4 ≡ 0) × (bits 4 2 pci + length words.old ≤ 8) }
-        ensures outcome { outcome_by_read self.new.look_aside self.old.log (piece_to_read pci words.old) words.new result ≡ outcome_claimed (state_of M.Memory.content self.old) (piece_to_read pci words.old) number mapped }
+        requires { bits 4 2 claimed.pci + length words.old ≤ 8 }
+        ensures outcome { outcome_by_read self.new.look_aside self.old.log (piece_to_read claimed.pci words.old) words.new result ≡ outcome_claimed (state_of M.Memory.content self.old) (piece_to_read claimed.pci words.old) claimed.number claimed.mapped }
         ensures kept { OnErr result (words.new ≡ words.old) }
-        ensures after { state_of M.Memory.content self.new ≡ after_piece (state_of M.Memory.content self.old) (outcome_by_read self.new.look_aside self.old.log (piece_to_read pci words.old) words.new result) }
+        ensures after { state_of M.Memory.content self.new ≡ after_piece (state_of M.Memory.content self.old) (outcome_by_read self.new.look_aside self.old.log (piece_to_read claimed.pci words.old) words.new result) }
     {
-        let served = self.read_line(number, mapped, pci, words);
+        let served = self.read_line(claimed, words);
         if let Err(fault) = served {
             self.log.note(FaultRecord {
                 fault,
                 direction: Direction::Read,
-                pci,
+                pci: claimed.pci,
             });
         }
         served
@@ -81,17 +74,18 @@ impl<M: Memory> Bridge<M> {
     {
         let mut moved = 0;
         while moved < count {
-            let at = pci + 4 * moved as u32;
-            let Some((number, mapped)) = self.registers.claim(at) else {
+            let pci = pci + 4 * moved as u32;
+            let Some((number, mapped)) = self.registers.claim(pci) else {
                 return Err(no_window(moved == 0, ReadEnd::NoWindow { moved }));
             };
-            let n = in_line(at, count - moved);
-            if let Err(fault) = self.read_piece(number, mapped, at, &mut buffer[moved..moved + n]) {
-                return Err(BurstRefusal::Ended(ReadEnd::Fault {
-                    moved,
-                    pci: at,
-                    fault,
-                }));
+            let n = in_line(pci, count - moved);
+            let claimed = Claimed {
+                number,
+                mapped,
+                pci,
+            };
+            if let Err(fault) = self.read_piece(claimed, &mut buffer[moved..moved + n]) {
+                return Err(BurstRefusal::Ended(ReadEnd::Fault { moved, pci, fault }));
             }
             moved += n;
         }

@@ -1,13 +1,21 @@
 // From a PCI address to a physical one: by a plain window, a look-aside row, or an entry of a table.
 ghost use Rattle.std.specs.Prelude.{◌≡◌, ◌/◌, ◌%◌, IfOk};
-ghost use Rattle.bridge.specs.Registers.{window};
 ghost use Rattle.bridge.specs.State.{state_of, with_rows};
-ghost use Rattle.bridge.specs.Translation.{entry_of, located_by_window, page_address, place_by};
+ghost use Rattle.bridge.specs.Translation.{entry_of, located_claimed, page_address, place_by};
 
 use crate::Bridge;
 use crate::faults::WalkFault;
 use crate::line::{BLANK, quadword};
 use memory::Memory;
+
+// A PCI address of a longword, with the window that holds it and whether that is mapped.
+#[derive(Clone, Copy)]
+pub(crate) struct Claimed {
+    pub(crate) number: u8,
+    pub(crate) mapped: bool,
+    pub(crate) pci: u32,
+    ghost aligned: { pci % 4 ≡ 0 },
+}
 
 // The address in a page: the page number supplies bits 32:13, the PCI address bits 12:0.
 fn page_address(page: u32, pci: u32) -> u64
@@ -32,14 +40,15 @@ impl<M: Memory> Bridge<M> {
         Ok((entry / 2 % 0x10_0000) as u32)
     }
 
-    // Where an address leads that a window claims. The page of a valid entry goes into the look-aside rows.
-    pub(crate) fn translate(&mut self, number: u8, mapped: bool, pci: u32) -> Result<u64, WalkFault>
-        ensures place { place_by result ≡ (located_by_window self.old.look_aside (M.Memory.content self.old.memory) pci (window self.old.registers number) mapped).place }
-        ensures low { IfOk result (λ address. address % 32 ≡ pci % 32) }
-        ensures after { state_of M.Memory.content self.new ≡ with_rows (located_by_window self.old.look_aside (M.Memory.content self.old.memory) pci (window self.old.registers number) mapped).look_aside (state_of M.Memory.content self.old) }
+    // Where a claimed address leads. The page of a valid entry goes into the look-aside rows.
+    pub(crate) fn translate(&mut self, claimed: Claimed) -> Result<u64, WalkFault>
+        ensures place { place_by result ≡ (located_claimed (state_of M.Memory.content self.old) claimed.pci claimed.number claimed.mapped).place }
+        ensures low { IfOk result (λ address. address % 32 ≡ claimed.pci % 32) }
+        ensures after { state_of M.Memory.content self.new ≡ with_rows (located_claimed (state_of M.Memory.content self.old) claimed.pci claimed.number claimed.mapped).look_aside (state_of M.Memory.content self.old) }
     {
-        let window = *self.registers.window(number);
-        if !mapped {
+        let window = *self.registers.window(claimed.number);
+        let pci = claimed.pci;
+        if !claimed.mapped {
             return Ok(window.plain_address(pci));
         }
         let pci_page = pci >> 13;

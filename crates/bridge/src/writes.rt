@@ -4,7 +4,7 @@ ghost use Rattle.bridge.specs.Bits.{bits};
 ghost use Rattle.bridge.specs.BurstAnswers.{write_answered};
 ghost use Rattle.bridge.specs.Bursts.{card_write, piece_to_write, third_check, wide_enable};
 ghost use Rattle.bridge.specs.Calls.{burst_outcome, card, performed, write_outcome};
-ghost use Rattle.bridge.specs.Longwords.{byte_of, enable_bits, line_byte, line_bytes, line_mask};
+ghost use Rattle.bridge.specs.Longwords.{byte_of, line_byte, line_bytes};
 ghost use Rattle.bridge.specs.Pieces.{after_piece, edited, outcome_by_write, outcome_claimed};
 ghost use Rattle.bridge.specs.State.{state_of, with_lines, with_rows};
 
@@ -12,20 +12,18 @@ use crate::Bridge;
 use crate::bursts::{
     BurstRefusal, WriteCounts, WriteEnd, WriteRefusal, count_is_wrong, in_line, no_window,
 };
+use crate::enables::{ByteEnables, any_is_wide};
 use crate::faults::BurstFault;
 use crate::line::BLANK;
 use crate::log::{Direction, FaultRecord};
+use crate::walk::Claimed;
 use memory::Memory;
 
 // Byte j of some longwords, 0 past their end.
 fn byte_of(words: &[u32], j: usize) -> u8
     ensures { result ≡ byte_of words.now j }
 {
-    if j / 4 < words.len() {
-        words[j / 4].to_le_bytes()[j % 4]
-    } else {
-        0
-    }
+    words.get(j / 4).map_or(0, |word| word.to_le_bytes()[j % 4])
 }
 
 // Byte i of a line that has the longwords from an offset on.
@@ -50,57 +48,22 @@ fn line_bytes(offset: usize, words: &[u32]) -> [u8; 32]
     bytes
 }
 
-// Four bits for each longword, those of the first lowest.
-fn enable_bits(enables: &[u8]) -> u32
-    requires { (length enables.now ≤ 8) × (wide_enable enables.now ≡ false) }
-    ensures value { result ≡ enable_bits enables.now }
-    ensures bound { result < 2 ^ (4 * length enables.now) }
-{
-    let mut mask = 0;
-    for i in (0..enables.len()).rev() {
-        mask = 16 * mask + u32::from(enables[i]);
-    }
-    mask
-}
-
-// Whether an enable has more than four bits.
-fn any_is_wide(enables: &[u8]) -> bool
-    ensures { result ≡ wide_enable enables.now }
-{
-    for enable in enables {
-        if *enable > 15 {
-            return true;
-        }
-    }
-    false
-}
-
-// The mask of a line that has longwords from an offset on.
-fn line_mask(offset: usize, enables: &[u8]) -> u32
-    requires { (offset < 32) × ((4 * length enables.now + offset ≤ 32) × (wide_enable enables.now ≡ false)) }
-    ensures { result ≡ line_mask offset enables.now }
-{
-    enable_bits(enables) << offset
-}
-
 impl<M: Memory> Bridge<M> {
     // Writes longwords that lie in one line, at an address that a window claims.
     fn write_line(
         &mut self,
-        number: u8,
-        mapped: bool,
-        pci: u32,
+        claimed: Claimed,
         words: &[u32],
-        enables: &[u8],
+        enables: &ByteEnables,
     ) -> Result<(), BurstFault>
-        requires { (pci % 4 ≡ 0) × ((bits 4 2 pci + length enables.now ≤ 8) × (wide_enable enables.now ≡ false)) }
-        ensures outcome { outcome_by_write self.new.look_aside self.old.log (piece_to_write pci words.now enables.now) (outcome_claimed (state_of M.Memory.content self.old) (piece_to_write pci words.now enables.now) number mapped).edit result ≡ outcome_claimed (state_of M.Memory.content self.old) (piece_to_write pci words.now enables.now) number mapped }
-        ensures after { state_of M.Memory.content self.new ≡ with_lines (edited (outcome_claimed (state_of M.Memory.content self.old) (piece_to_write pci words.now enables.now) number mapped).edit) (with_rows self.new.look_aside (state_of M.Memory.content self.old)) }
+        requires { bits 4 2 claimed.pci + length enables.now.numbers.now ≤ 8 }
+        ensures outcome { outcome_by_write self.new.look_aside self.old.log (piece_to_write claimed.pci words.now enables.now.numbers.now) (outcome_claimed (state_of M.Memory.content self.old) (piece_to_write claimed.pci words.now enables.now.numbers.now) claimed.number claimed.mapped).edit result ≡ outcome_claimed (state_of M.Memory.content self.old) (piece_to_write claimed.pci words.now enables.now.numbers.now) claimed.number claimed.mapped }
+        ensures after { state_of M.Memory.content self.new ≡ with_lines (edited (outcome_claimed (state_of M.Memory.content self.old) (piece_to_write claimed.pci words.now enables.now.numbers.now) claimed.number claimed.mapped).edit) (with_rows self.new.look_aside (state_of M.Memory.content self.old)) }
     {
-        let address = self.translate(number, mapped, pci)?;
+        let address = self.translate(claimed)?;
         let offset = (address % 32) as usize;
         let bytes = line_bytes(offset, words);
-        let mask = line_mask(offset, enables);
+        let mask = enables.line_mask(offset);
         self.memory.write(address / 32, &bytes, mask)?;
         Ok(())
     }
@@ -108,22 +71,20 @@ impl<M: Memory> Bridge<M> {
     // Writes a piece of a burst, or dismisses it and logs its fault.
     pub(crate) fn write_piece(
         &mut self,
-        number: u8,
-        mapped: bool,
-        pci: u32,
+        claimed: Claimed,
         words: &[u32],
-        enables: &[u8],
+        enables: &ByteEnables,
     ) -> Result<(), BurstFault>
-        requires { (pci % 4 ≡ 0) × ((bits 4 2 pci + length enables.now ≤ 8) × (wide_enable enables.now ≡ false)) }
-        ensures outcome { outcome_by_write self.new.look_aside self.old.log (piece_to_write pci words.now enables.now) (outcome_claimed (state_of M.Memory.content self.old) (piece_to_write pci words.now enables.now) number mapped).edit result ≡ outcome_claimed (state_of M.Memory.content self.old) (piece_to_write pci words.now enables.now) number mapped }
-        ensures after { state_of M.Memory.content self.new ≡ after_piece (state_of M.Memory.content self.old) (outcome_claimed (state_of M.Memory.content self.old) (piece_to_write pci words.now enables.now) number mapped) }
+        requires { bits 4 2 claimed.pci + length enables.now.numbers.now ≤ 8 }
+        ensures outcome { outcome_by_write self.new.look_aside self.old.log (piece_to_write claimed.pci words.now enables.now.numbers.now) (outcome_claimed (state_of M.Memory.content self.old) (piece_to_write claimed.pci words.now enables.now.numbers.now) claimed.number claimed.mapped).edit result ≡ outcome_claimed (state_of M.Memory.content self.old) (piece_to_write claimed.pci words.now enables.now.numbers.now) claimed.number claimed.mapped }
+        ensures after { state_of M.Memory.content self.new ≡ after_piece (state_of M.Memory.content self.old) (outcome_claimed (state_of M.Memory.content self.old) (piece_to_write claimed.pci words.now enables.now.numbers.now) claimed.number claimed.mapped) }
     {
-        let served = self.write_line(number, mapped, pci, words, enables);
+        let served = self.write_line(claimed, words, enables);
         if let Err(fault) = served {
             self.log.note(FaultRecord {
                 fault,
                 direction: Direction::Write,
-                pci,
+                pci: claimed.pci,
             });
         }
         served
@@ -153,14 +114,21 @@ impl<M: Memory> Bridge<M> {
         };
         while counts.takes_more(count) {
             let first = counts.taken;
-            let at = pci + 4 * first as u32;
-            let Some((number, mapped)) = self.registers.claim(at) else {
+            let pci = pci + 4 * first as u32;
+            let Some((number, mapped)) = self.registers.claim(pci) else {
                 return Err(no_window(first == 0, WriteEnd { counts }));
             };
-            let n = in_line(at, count - first);
+            let n = in_line(pci, count - first);
+            let claimed = Claimed {
+                number,
+                mapped,
+                pci,
+            };
             let words = &words[first..first + n];
-            let enables = &enables[first..first + n];
-            let served = self.write_piece(number, mapped, at, words, enables);
+            let enables = ByteEnables {
+                numbers: &enables[first..first + n],
+            };
+            let served = self.write_piece(claimed, words, &enables);
             counts.add(n, served.is_ok());
         }
         Ok(counts)

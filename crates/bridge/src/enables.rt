@@ -1,0 +1,40 @@
+// The byte enables of a card write: a number for each longword, whose bits 3:0 are for its four bytes.
+ghost use Rattle.std.specs.Prelude.{◌≡◌, ◌+◌, ◌*◌, ◌^◌, ◌<◌, ◌≤◌, false, length};
+ghost use Rattle.bridge.specs.Bursts.{wide_enable};
+ghost use Rattle.bridge.specs.Longwords.{enable_bits, line_mask};
+
+// Whether a number has more than four bits.
+pub(crate) fn any_is_wide(numbers: &[u8]) -> bool
+    ensures { result ≡ wide_enable numbers.now }
+{
+    numbers.iter().any(|number| *number > 15)
+}
+
+// Numbers that have four bits at most.
+#[derive(Clone, Copy)]
+pub(crate) struct ByteEnables<'a> {
+    pub(crate) numbers: &'a [u8],
+    ghost narrow: { wide_enable numbers.now ≡ false },
+}
+
+impl ByteEnables<'_> {
+    // Four bits for each longword, those of the first lowest.
+    fn bits(&self) -> u32
+        requires { length self.now.numbers.now ≤ 8 }
+        ensures value { result ≡ enable_bits self.now.numbers.now }
+        ensures bound { result < 2 ^ (4 * length self.now.numbers.now) }
+    {
+        match self.numbers {
+            [] => 0,
+            [number, rest @ ..] => u32::from(*number) + 16 * ByteEnables { numbers: rest }.bits(),
+        }
+    }
+
+    // The mask of a line that has longwords from an offset on.
+    pub(crate) fn line_mask(&self, offset: usize) -> u32
+        requires { (offset < 32) × (4 * length self.now.numbers.now + offset ≤ 32) }
+        ensures { result ≡ line_mask offset self.now.numbers.now }
+    {
+        self.bits() << offset
+    }
+}
