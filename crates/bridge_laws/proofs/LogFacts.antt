@@ -11,7 +11,8 @@ use Rattle.bridge.specs.Isolation.{after}
 use Rattle.bridge.specs.Log.{logged}
 use Rattle.bridge_laws.specs.LogRuns.{LogKeepsTheFirst, burst_faults, faults_at, faults_since, faults_then, log_of, run_faults, target_faults}
 use Rattle.bridge.specs.Pieces.{PieceOutcome, after_piece, outcome_at_content, outcome_at_place, piece_outcome}
-use Rattle.bridge.specs.Registers.{Register, register_named}
+use Rattle.bridge.specs.declared.registers.Register.{Register}
+use Rattle.bridge.specs.Registers.{register_named}
 use Rattle.bridge.specs.Runs.{Run, ends, run, run_unless}
 use Rattle.bridge.specs.State.{Control, State, new_state}
 use Rattle.bridge.specs.Translation.{Place, located, place_of, table_fault, target, unclaimed}

@@ -38,7 +38,7 @@ UnclaimedBy s pci (target address) = Unit {0}
 place_fact : (s : State) (pci : ℕ) (l : Located) → Translated s pci l → UnclaimedBy s pci l.place
 place_fact s pci l (by_none f g) = ap is_unclaimed (cond-false (holds s.control.registers.first pci) _ _ f ∙ cond-false (holds s.control.registers.second pci) _ _ g)
 place_fact s pci l (by_plain_window number h m) = tt
-place_fact s pci l (by_row number i f) = tt
+place_fact s pci l (by_row number i page f e) = tt
 place_fact s pci l (by_entry number page bytes f h v e) = tt
 place_fact s pci l (not_valid number bytes f h v) = tt
 place_fact s pci l (table_absent number f h) = tt

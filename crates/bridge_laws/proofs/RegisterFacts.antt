@@ -8,11 +8,13 @@ use Rattle.memory.specs.Content.{bit}
 use Rattle.bridge.specs.declared.look_aside.LookAside.{LookAside}
 use Rattle.bridge.specs.declared.look_aside.LookAsideRow.{LookAsideRow}
 use Rattle.bridge.specs.declared.registers.Registers.{Registers}
-use Rattle.bridge.specs.Bits.{bits, bits_kept, flag, in_range}
+use Rattle.bridge.specs.Bits.{bits, bits_kept, in_range}
 use Rattle.bridge.specs.Calls.{Outcome, control_written, processor, register_read, register_write}
-use Rattle.bridge.specs.LookAside.{row, zero_row, zero_rows}
-use Rattle.bridge_laws.specs.RegisterMap.{FromTo, Leaves, Listed, Parts, ReadsBack, RefusedWith10, RegisterMap, RowRegister, Writable, after_write, kept_bit, read_of}
-use Rattle.bridge.specs.Registers.{Register, data_value, haxr0, haxr1, haxr2, invalidate_all, pci_base, pci_mask, read_only, register_named, register_read_answer, register_value, register_write_answer, row_data, row_tag, tag_value, translated_base}
+use Rattle.bridge.specs.LookAside.{row, zero_rows}
+use Rattle.bridge_laws.specs.RegisterMap.{FromTo, Leaves, Listed, Parts, ReadsBack, RefusedWith10, RegisterMap, RowRegister, Writable, after_write, data_bit, kept_bit, read_of, tag_bit}
+use Rattle.bridge.specs.declared.registers.Register.{Register}
+use Rattle.bridge.specs.declared.registers.Register.TheVariants.{Haxr0, Haxr1, Haxr2, InvalidateAll, PciBase, PciMask, RowData, RowTag, TranslatedBase}
+use Rattle.bridge.specs.Registers.{data_value, read_only, register_named, register_read_answer, register_value, register_write_answer, tag_value}
 use Rattle.bridge.specs.State.{Control, State}
 use Rattle.bridge_laws.proofs.AddressFacts.{bit_of_power}
 use Rattle.bridge_laws.proofs.BitFacts.{bit_beyond, bit_field, bit_high, bit_low, bit_of_zero, field_below}
@@ -114,27 +116,27 @@ module _ (v : ℕ) where
 -- the registers that the rows alone decide, with the numbers that name none
 abbrev by_rows : Option Register → Bool
 by_rows None = true
-by_rows (Some (translated_base number)) = false
-by_rows (Some (pci_base number)) = false
-by_rows (Some (pci_mask number)) = false
-by_rows (Some haxr0) = false
-by_rows (Some haxr1) = false
-by_rows (Some haxr2) = false
-by_rows (Some (row_tag i)) = true
-by_rows (Some (row_data i)) = true
-by_rows (Some invalidate_all) = true
+by_rows (Some (TranslatedBase number)) = false
+by_rows (Some (PciBase number)) = false
+by_rows (Some (PciMask number)) = false
+by_rows (Some Haxr0) = false
+by_rows (Some Haxr1) = false
+by_rows (Some Haxr2) = false
+by_rows (Some (RowTag i)) = true
+by_rows (Some (RowData i)) = true
+by_rows (Some InvalidateAll) = true
 
 rows_decide : (r q : Registers) (t : LookAside) (o : Option Register) → by_rows o ≡ true → register_read_answer r t o ≡ register_read_answer q t o
 rows_decide r q t None h = refl
-rows_decide r q t (Some (translated_base number)) h = absurd (both_ways false refl h)
-rows_decide r q t (Some (pci_base number)) h = absurd (both_ways false refl h)
-rows_decide r q t (Some (pci_mask number)) h = absurd (both_ways false refl h)
-rows_decide r q t (Some haxr0) h = absurd (both_ways false refl h)
-rows_decide r q t (Some haxr1) h = absurd (both_ways false refl h)
-rows_decide r q t (Some haxr2) h = absurd (both_ways false refl h)
-rows_decide r q t (Some (row_tag i)) h = refl
-rows_decide r q t (Some (row_data i)) h = refl
-rows_decide r q t (Some invalidate_all) h = refl
+rows_decide r q t (Some (TranslatedBase number)) h = absurd (both_ways false refl h)
+rows_decide r q t (Some (PciBase number)) h = absurd (both_ways false refl h)
+rows_decide r q t (Some (PciMask number)) h = absurd (both_ways false refl h)
+rows_decide r q t (Some Haxr0) h = absurd (both_ways false refl h)
+rows_decide r q t (Some Haxr1) h = absurd (both_ways false refl h)
+rows_decide r q t (Some Haxr2) h = absurd (both_ways false refl h)
+rows_decide r q t (Some (RowTag i)) h = refl
+rows_decide r q t (Some (RowData i)) h = refl
+rows_decide r q t (Some InvalidateAll) h = refl
 
 not_by_rows : (n : ℕ) → by_rows (register_named n) ≡ false → FromTo 6 14 n
 not_by_rows n h = (grind (arith, nat_tests), grind (arith, nat_tests))
@@ -142,15 +144,15 @@ not_by_rows n h = (grind (arith, nat_tests), grind (arith, nat_tests))
 -- the registers that can be written
 abbrev can_write : Option Register → Bool
 can_write None = false
-can_write (Some (translated_base number)) = true
-can_write (Some (pci_base number)) = true
-can_write (Some (pci_mask number)) = true
-can_write (Some haxr0) = true
-can_write (Some haxr1) = true
-can_write (Some haxr2) = true
-can_write (Some (row_tag i)) = false
-can_write (Some (row_data i)) = false
-can_write (Some invalidate_all) = true
+can_write (Some (TranslatedBase number)) = true
+can_write (Some (PciBase number)) = true
+can_write (Some (PciMask number)) = true
+can_write (Some Haxr0) = true
+can_write (Some Haxr1) = true
+can_write (Some Haxr2) = true
+can_write (Some (RowTag i)) = false
+can_write (Some (RowData i)) = false
+can_write (Some InvalidateAll) = true
 
 can_write_named : (n : ℕ) → can_write (register_named n) ≡ (in_range 6 14 n || eqb n 32)
 can_write_named n = grind (arith, nat_tests)
@@ -162,15 +164,15 @@ named_none n h = grind (arith, nat_tests)
 module _ (k : Control) (v : ℕ) where
   unwritten : (o : Option Register) → can_write o ≡ false → (control_written k o v ≡ k) × (register_write_answer o ≡ refusal 10 [])
   unwritten None h = (refl, refl)
-  unwritten (Some (translated_base number)) h = absurd (both_ways true h refl)
-  unwritten (Some (pci_base number)) h = absurd (both_ways true h refl)
-  unwritten (Some (pci_mask number)) h = absurd (both_ways true h refl)
-  unwritten (Some haxr0) h = absurd (both_ways true h refl)
-  unwritten (Some haxr1) h = absurd (both_ways true h refl)
-  unwritten (Some haxr2) h = absurd (both_ways true h refl)
-  unwritten (Some (row_tag i)) h = (refl, refl)
-  unwritten (Some (row_data i)) h = (refl, refl)
-  unwritten (Some invalidate_all) h = absurd (both_ways true h refl)
+  unwritten (Some (TranslatedBase number)) h = absurd (both_ways true h refl)
+  unwritten (Some (PciBase number)) h = absurd (both_ways true h refl)
+  unwritten (Some (PciMask number)) h = absurd (both_ways true h refl)
+  unwritten (Some Haxr0) h = absurd (both_ways true h refl)
+  unwritten (Some Haxr1) h = absurd (both_ways true h refl)
+  unwritten (Some Haxr2) h = absurd (both_ways true h refl)
+  unwritten (Some (RowTag i)) h = (refl, refl)
+  unwritten (Some (RowData i)) h = (refl, refl)
+  unwritten (Some InvalidateAll) h = absurd (both_ways true h refl)
 
   log_stays : (o : Option Register) → (control_written k o v).log ≡ k.log
   log_stays None = refl
@@ -178,15 +180,15 @@ module _ (k : Control) (v : ℕ) where
 
 answers_write : (o : Option Register) → can_write o ≡ true → register_write_answer o ≡ success []
 answers_write None h = absurd (both_ways false refl h)
-answers_write (Some (translated_base number)) h = refl
-answers_write (Some (pci_base number)) h = refl
-answers_write (Some (pci_mask number)) h = refl
-answers_write (Some haxr0) h = refl
-answers_write (Some haxr1) h = refl
-answers_write (Some haxr2) h = refl
-answers_write (Some (row_tag i)) h = absurd (both_ways false refl h)
-answers_write (Some (row_data i)) h = absurd (both_ways false refl h)
-answers_write (Some invalidate_all) h = refl
+answers_write (Some (TranslatedBase number)) h = refl
+answers_write (Some (PciBase number)) h = refl
+answers_write (Some (PciMask number)) h = refl
+answers_write (Some Haxr0) h = refl
+answers_write (Some Haxr1) h = refl
+answers_write (Some Haxr2) h = refl
+answers_write (Some (RowTag i)) h = absurd (both_ways false refl h)
+answers_write (Some (RowData i)) h = absurd (both_ways false refl h)
+answers_write (Some InvalidateAll) h = refl
 
 never_both : (a : Answer) (values : List ℕ) → a ≡ success values → a ≡ refusal 10 [] → ⊥
 never_both a values e f = let z : ◌≡◌ {A = ℕ} 0 1 = cc in omega arith
@@ -237,7 +239,7 @@ write_refused s n v = record {
     cannot h = ⊎_elim (λ t. absurd (h (writable_named n t))) (λ f. f) (cases_Bool (can_write (register_named n)))
 
 -- the zero rows read 0
-zero_at : (n i : ℕ) → get_or (replicate n zero_row) i zero_row ≡ zero_row
+zero_at : (n i : ℕ) → get_or {A = Option LookAsideRow} (replicate n None) i None ≡ None
 zero_at zero i = refl
 zero_at (suc n) zero = refl
 zero_at (suc n) (suc i) = zero_at n i
@@ -251,28 +253,28 @@ row_named m (g, l) = grind (arith, nat_tests)
 
 reads_zero : (r : Registers) (o : Option Register) → is_row o ≡ true → register_read_answer r zero_rows o ≡ success (0 ∷ [])
 reads_zero r None h = absurd (both_ways false refl h)
-reads_zero r (Some (translated_base number)) h = absurd (both_ways false refl h)
-reads_zero r (Some (pci_base number)) h = absurd (both_ways false refl h)
-reads_zero r (Some (pci_mask number)) h = absurd (both_ways false refl h)
-reads_zero r (Some haxr0) h = absurd (both_ways false refl h)
-reads_zero r (Some haxr1) h = absurd (both_ways false refl h)
-reads_zero r (Some haxr2) h = absurd (both_ways false refl h)
-reads_zero r (Some (row_tag i)) h = ap (λ (x : LookAsideRow). success (tag_value x ∷ [])) (zero_at 8 i)
-reads_zero r (Some (row_data i)) h = ap (λ (x : LookAsideRow). success (data_value x ∷ [])) (zero_at 8 i)
-reads_zero r (Some invalidate_all) h = absurd (both_ways false refl h)
+reads_zero r (Some (TranslatedBase number)) h = absurd (both_ways false refl h)
+reads_zero r (Some (PciBase number)) h = absurd (both_ways false refl h)
+reads_zero r (Some (PciMask number)) h = absurd (both_ways false refl h)
+reads_zero r (Some Haxr0) h = absurd (both_ways false refl h)
+reads_zero r (Some Haxr1) h = absurd (both_ways false refl h)
+reads_zero r (Some Haxr2) h = absurd (both_ways false refl h)
+reads_zero r (Some (RowTag i)) h = ap (λ (x : Option LookAsideRow). success (tag_value x ∷ [])) (zero_at 8 i)
+reads_zero r (Some (RowData i)) h = ap (λ (x : Option LookAsideRow). success (data_value x ∷ [])) (zero_at 8 i)
+reads_zero r (Some InvalidateAll) h = absurd (both_ways false refl h)
 
 -- what a read that the rows do not decide answers
 not_rows_decide : (r : Registers) (t u : LookAside) (o : Option Register) → is_row o ≡ false → register_read_answer r t o ≡ register_read_answer r u o
 not_rows_decide r t u None h = refl
-not_rows_decide r t u (Some (translated_base number)) h = refl
-not_rows_decide r t u (Some (pci_base number)) h = refl
-not_rows_decide r t u (Some (pci_mask number)) h = refl
-not_rows_decide r t u (Some haxr0) h = refl
-not_rows_decide r t u (Some haxr1) h = refl
-not_rows_decide r t u (Some haxr2) h = refl
-not_rows_decide r t u (Some (row_tag i)) h = absurd (both_ways true h refl)
-not_rows_decide r t u (Some (row_data i)) h = absurd (both_ways true h refl)
-not_rows_decide r t u (Some invalidate_all) h = refl
+not_rows_decide r t u (Some (TranslatedBase number)) h = refl
+not_rows_decide r t u (Some (PciBase number)) h = refl
+not_rows_decide r t u (Some (PciMask number)) h = refl
+not_rows_decide r t u (Some Haxr0) h = refl
+not_rows_decide r t u (Some Haxr1) h = refl
+not_rows_decide r t u (Some Haxr2) h = refl
+not_rows_decide r t u (Some (RowTag i)) h = absurd (both_ways true h refl)
+not_rows_decide r t u (Some (RowData i)) h = absurd (both_ways true h refl)
+not_rows_decide r t u (Some InvalidateAll) h = refl
 
 named_row : (m : ℕ) → is_row (register_named m) ≡ true → RowRegister m
 named_row m h = (grind (arith, nat_tests), grind (arith, nat_tests))
@@ -345,40 +347,32 @@ bit_moved high k n i =
     inside i g l = grind (arith, nat_tests)
 
 -- a tag: the valid bit below the page
-flag_bit : (b : Bool) (i : ℕ) → bit (flag b * 2 ^ 12) i ≡ (eqb i 12 && b)
-flag_bit true i = bit_of_power 12 i ∙ sym (and_true (eqb i 12))
-  where
-    and_true : (x : Bool) → (x && true) ≡ x
-    and_true true = refl
-    and_true false = refl
-flag_bit false i = bit_of_zero i ∙ sym (and_right (eqb i 12) false refl)
+below_12 : (x r q : Bool) → r ≡ false → x ≡ cond x true (r && q)
+below_12 true r q h = refl
+below_12 false r q h = sym (and_left r q h)
 
-flag_below : (b : Bool) → flag b * 2 ^ 12 < 2 ^ 13
-flag_below true = omega arith
-flag_below false = omega arith
-
-chosen : (x v r q : Bool) → r ≡ false → (x && v) ≡ cond x v (r && q)
-chosen true v r q h = refl
-chosen false v r q h = sym (and_left r q h)
-
-tag_bits : (r : LookAsideRow) (i : ℕ) → bit (tag_value r) i ≡ cond (eqb i 12) r.valid (in_range 13 31 i && bit r.pci_page (i - 13))
-tag_bits r i =
+tag_bits : (r : Option LookAsideRow) (i : ℕ) → bit (tag_value r) i ≡ tag_bit r i
+tag_bits None i = bit_of_zero i
+tag_bits (Some r) i =
     let x = bits 18 0 r.pci_page in
-    let f = flag r.valid * 2 ^ 12 in
     let alone : x * 2 ^ 13 + 0 ≡ x * 2 ^ 13 = omega arith in
     ⊎_elim
-    (λ l. bit_low i 13 x f l ∙ flag_bit r.valid i ∙ chosen (eqb i 12) r.valid (in_range 13 31 i) (bit r.pci_page (i - 13)) (under i l))
-    (λ g. bit_high i 13 x f (flag_below r.valid) g ∙ sym (bit_high i 13 x 0 (omega arith) g) ∙ ap (λ n. bit n i) alone ∙ bit_moved 18 13 r.pci_page i
+    (λ l. bit_low i 13 x (2 ^ 12) l ∙ bit_of_power 12 i ∙ below_12 (eqb i 12) (in_range 13 31 i) (bit r.pci_page (i - 13)) (under i l))
+    (λ g. bit_high i 13 x (2 ^ 12) (omega arith) g ∙ sym (bit_high i 13 x 0 (omega arith) g) ∙ ap (λ n. bit n i) alone ∙ bit_moved 18 13 r.pci_page i
     ∙ sym (cond-false (eqb i 12) _ _ (ne_eqb i 12 (λ e. omega arith))))
     (cases_lt i 13)
   where
     under : (i : ℕ) → i < 13 → in_range 13 31 i ≡ false
     under i l = grind (arith, nat_tests)
 
-tag_named : (k : ℕ) → k < 8 → register_named (16 + k) ≡ Some (row_tag k)
+data_bits : (r : Option LookAsideRow) (i : ℕ) → bit (data_value r) i ≡ data_bit r i
+data_bits None i = bit_of_zero i
+data_bits (Some r) i = bit_moved 19 1 r.page i
+
+tag_named : (k : ℕ) → k < 8 → register_named (16 + k) ≡ Some (RowTag k)
 tag_named k h = grind (arith, nat_tests)
 
-data_named : (k : ℕ) → k < 8 → register_named (24 + k) ≡ Some (row_data k)
+data_named : (k : ℕ) → k < 8 → register_named (24 + k) ≡ Some (RowData k)
 data_named k h = grind (arith, nat_tests)
 
 parts : (s : State) → Parts s
@@ -392,7 +386,7 @@ parts s = record {
   haxr1 = refl;
   haxr2 = refl;
   tag = λ k h. record { value = tag_value (row s.control.look_aside k); read = answered (16 + k) (tag_named k h); bits = tag_bits (row s.control.look_aside k) };
-  page_number = λ k h. record { value = data_value (row s.control.look_aside k); read = answered (24 + k) (data_named k h); bits = bit_moved 19 1 (row s.control.look_aside k).page };
+  page_number = λ k h. record { value = data_value (row s.control.look_aside k); read = answered (24 + k) (data_named k h); bits = data_bits (row s.control.look_aside k) };
 }
   where
     answered : (n : ℕ) {r : Register} → register_named n ≡ Some r → read_of s n ≡ success (register_value s.control.registers s.control.look_aside r ∷ [])

@@ -1,5 +1,6 @@
 -- The look-aside rows over a run of calls.
 use Rattle.std.proofs.Common.{◌≡◌, ℕ, zero, suc, ◌/◌, Bool, true, false, ◌⊎◌, List, [], ◌∷◌, get_or, set, replicate, Some, None, Option, sym, refl, ap, ◌∙◌, subst, inl, inr, ⊎_elim, arith, Ok, Err, Result}
+use Rattle.std.specs.Prelude.{is_some}
 use Rattle.std.proofs.lemmas.List.{get_or-set_other, get_or-set_same}
 use Rattle.std.proofs.lemmas.Bool.{false≢true}
 use Rattle.std.proofs.lemmas.Bool.Decides.{nat_tests}
@@ -12,9 +13,11 @@ use Rattle.bridge.specs.declared.registers.Registers.{Registers}
 use Rattle.bridge.specs.Bursts.{Burst, Job, Piece, failed_check, pieces, reading, writing}
 use Rattle.bridge.specs.Calls.{Call, burst_outcome, card, control_written, decode, load, log_clear, log_read, performed, processor, register_read, register_write, store}
 use Rattle.bridge.specs.Isolation.{after}
-use Rattle.bridge.specs.LookAside.{row, zero_row, zero_rows}
+use Rattle.bridge.specs.LookAside.{row, zero_rows}
 use Rattle.bridge.specs.Pieces.{PieceOutcome, after_piece, outcome_at_content, outcome_at_place, piece_outcome}
-use Rattle.bridge.specs.Registers.{Register, haxr0, haxr1, haxr2, invalidate_all, pci_base, pci_mask, register_named, row_data, row_tag, translated_base, window}
+use Rattle.bridge.specs.declared.registers.Register.{Register}
+use Rattle.bridge.specs.declared.registers.Register.TheVariants.{Haxr0, Haxr1, Haxr2, InvalidateAll, PciBase, PciMask, RowData, RowTag, TranslatedBase}
+use Rattle.bridge.specs.Registers.{register_named, window}
 use Rattle.bridge_laws.specs.RowRuns.{FilledRow, LeavesRows, RowsFill, RowsInRuns, RowsInvalidate, RowsLast, RowsServe}
 use Rattle.bridge.specs.Runs.{Run, ends, run, run_unless}
 use Rattle.bridge.specs.State.{Control, State, new_state}
@@ -31,7 +34,7 @@ from_refl s i = inl refl
 from_trans : (s t u : LookAside) → From s t → From t u → From s u
 from_trans s t u f g i = ⊎_elim (λ e. ⊎_elim (λ d. inl (e ∙ d)) (λ r. inr (subst FilledRow (sym e) r)) (f i)) inr (g i)
 
-set_at : (l : List LookAsideRow) (i k : ℕ) (r d : LookAsideRow) → (get_or (set l i r) k d ≡ get_or l k d) ⊎ (get_or (set l i r) k d ≡ r)
+set_at : (l : List (Option LookAsideRow)) (i k : ℕ) (r d : Option LookAsideRow) → (get_or (set l i r) k d ≡ get_or l k d) ⊎ (get_or (set l i r) k d ≡ r)
 set_at [] i k r d = inl refl
 set_at (x ∷ l) zero zero r d = inr refl
 set_at (x ∷ l) zero (suc k) r d = inl refl
@@ -45,7 +48,7 @@ module _ (r : Registers) (t : LookAside) (lines : Lines) (pci : ℕ) where
   by_entry number c (Ok page) h = λ i.
       ⊎_elim inl
       (λ e. inr (record { registers = r; lines = lines; pci = pci; number = number; page = page; claimed = c; named = h; is = e }))
-      (set_at t.rows t.pointer i _ zero_row)
+      (set_at t.rows t.pointer i _ None)
 
   by_row : (number : ℕ) → claim r pci ≡ Some (number, true) → (o : Option ℕ) → From t (located_by_row t lines pci (entry_address (window r number) pci) o).look_aside
   by_row number c (Some page) = from_refl t
@@ -92,34 +95,34 @@ burst_rows s b (Some number) = from_refl s.control.look_aside
 burst_rows s b None = run_rows (pieces b) s
 
 -- only 32 names the register that invalidates all rows
-pub invalidates_by_32 : (n : ℕ) → register_named n ≡ Some invalidate_all → n ≡ 32
+pub invalidates_by_32 : (n : ℕ) → register_named n ≡ Some InvalidateAll → n ≡ 32
 invalidates_by_32 n e = grind (arith, nat_tests)
 
 -- a register write leaves the rows, unless it is that one
 module _ (k : Control) (v : ℕ) where
-  pub left_unless : (o : Option Register) → (o ≡ Some invalidate_all → ⊥) → (control_written k o v).look_aside ≡ k.look_aside
+  pub left_unless : (o : Option Register) → (o ≡ Some InvalidateAll → ⊥) → (control_written k o v).look_aside ≡ k.look_aside
   left_unless None ne = refl
-  left_unless (Some (translated_base number)) ne = refl
-  left_unless (Some (pci_base number)) ne = refl
-  left_unless (Some (pci_mask number)) ne = refl
-  left_unless (Some haxr0) ne = refl
-  left_unless (Some haxr1) ne = refl
-  left_unless (Some haxr2) ne = refl
-  left_unless (Some (row_tag i)) ne = refl
-  left_unless (Some (row_data i)) ne = refl
-  left_unless (Some invalidate_all) ne = absurd (ne refl)
+  left_unless (Some (TranslatedBase number)) ne = refl
+  left_unless (Some (PciBase number)) ne = refl
+  left_unless (Some (PciMask number)) ne = refl
+  left_unless (Some Haxr0) ne = refl
+  left_unless (Some Haxr1) ne = refl
+  left_unless (Some Haxr2) ne = refl
+  left_unless (Some (RowTag i)) ne = refl
+  left_unless (Some (RowData i)) ne = refl
+  left_unless (Some InvalidateAll) ne = absurd (ne refl)
 
   left_or_zero : (o : Option Register) → ((control_written k o v).look_aside ≡ k.look_aside) ⊎ ((control_written k o v).look_aside ≡ zero_rows)
   left_or_zero None = inl refl
-  left_or_zero (Some (translated_base number)) = inl refl
-  left_or_zero (Some (pci_base number)) = inl refl
-  left_or_zero (Some (pci_mask number)) = inl refl
-  left_or_zero (Some haxr0) = inl refl
-  left_or_zero (Some haxr1) = inl refl
-  left_or_zero (Some haxr2) = inl refl
-  left_or_zero (Some (row_tag i)) = inl refl
-  left_or_zero (Some (row_data i)) = inl refl
-  left_or_zero (Some invalidate_all) = inr refl
+  left_or_zero (Some (TranslatedBase number)) = inl refl
+  left_or_zero (Some (PciBase number)) = inl refl
+  left_or_zero (Some (PciMask number)) = inl refl
+  left_or_zero (Some Haxr0) = inl refl
+  left_or_zero (Some Haxr1) = inl refl
+  left_or_zero (Some Haxr2) = inl refl
+  left_or_zero (Some (RowTag i)) = inl refl
+  left_or_zero (Some (RowData i)) = inl refl
+  left_or_zero (Some InvalidateAll) = inr refl
 
 call_rows : (c : Call) (s : State) → LeavesRows c → From s.control.look_aside (performed s c).state.control.look_aside
 call_rows (processor (register_read n)) s l = from_refl s.control.look_aside
@@ -137,12 +140,12 @@ rows_last s (c ∷ cs) l = from_trans s.control.look_aside (performed s c).state
 
 -- every valid row was filled
 abbrev AllFilled : LookAside → Type 0
-AllFilled t = (i : ℕ) → (row t i).valid ≡ true → FilledRow (row t i)
+AllFilled t = (i : ℕ) → is_some (row t i) ≡ true → FilledRow (row t i)
 
 filled_from : (s t : LookAside) → AllFilled s → From s t → AllFilled t
-filled_from s t f g i v = ⊎_elim (λ e. subst FilledRow (sym e) (f i (ap (λ (r : LookAsideRow). r.valid) (sym e) ∙ v))) (λ r. r) (g i)
+filled_from s t f g i v = ⊎_elim (λ e. subst FilledRow (sym e) (f i (ap is_some (sym e) ∙ v))) (λ r. r) (g i)
 
-zero_invalid : (n i : ℕ) → (get_or (replicate n zero_row) i zero_row).valid ≡ false
+zero_invalid : (n i : ℕ) → is_some (get_or {A = Option LookAsideRow} (replicate n None) i None) ≡ false
 zero_invalid zero i = refl
 zero_invalid (suc n) zero = refl
 zero_invalid (suc n) (suc i) = zero_invalid n i
@@ -170,13 +173,13 @@ rows_serve s pci number page c h lines = rw (c, h)
 
 rows_fill : RowsFill
 rows_fill t n page long = record {
-  here = get_or-set_same t.rows t.pointer _ zero_row (omega (arith, t.below));
-  others = λ i ne. get_or-set_other t.rows t.pointer i _ zero_row ne;
+  here = get_or-set_same t.rows t.pointer _ None (omega (arith, t.below));
+  others = λ i ne. get_or-set_other t.rows t.pointer i _ None ne;
   next = λ low. omega arith;
   wraps = λ last. omega arith;
 }
 
-zero_rows_at : (n i : ℕ) → get_or (replicate n zero_row) i zero_row ≡ zero_row
+zero_rows_at : (n i : ℕ) → get_or {A = Option LookAsideRow} (replicate n None) i None ≡ None
 zero_rows_at zero i = refl
 zero_rows_at (suc n) zero = refl
 zero_rows_at (suc n) (suc i) = zero_rows_at n i

@@ -1,9 +1,10 @@
 -- The definition of translation meets the relation.
-use Rattle.std.proofs.Common.{◌≡◌, ℕ, ◌/◌, Bool, true, false, Some, None, Option, sym, refl, subst, ⊎_elim}
-use Rattle.std.proofs.lemmas.Bool.{cases_Bool, cond-false, cond-true}
+use Rattle.std.proofs.Common.{◌≡◌, ℕ, ◌/◌, Bool, true, false, Some, None, Option, sym, refl, ap, subst, ⊎_elim}
+use Rattle.std.proofs.lemmas.Bool.{both_ways, cases_Bool, cond-false, cond-true}
 use Rattle.memory.specs.Content.{Content, absent, bit, good, spoiled}
 use Rattle.memory.specs.Searches.{first_finds}
-use Rattle.bridge.specs.LookAside.{page_of_row, answers_in}
+use Rattle.bridge.specs.declared.look_aside.LookAsideRow.{LookAsideRow}
+use Rattle.bridge.specs.LookAside.{answers_in, page_in, page_of_row, row}
 use Rattle.bridge.specs.Registers.{window}
 use Rattle.bridge.specs.State.{State}
 use Rattle.bridge_laws.specs.Translated.{FirstHolder, Searched, Translated, Translates, by_entry, by_none, by_plain_window, by_row, entry_at, not_valid, table_absent, table_spoiled, window_1, window_2}
@@ -23,7 +24,11 @@ module _ (s : State) (pci number : ℕ) (holder : FirstHolder s.control.register
 
   by_found : (o : Option ℕ) → Searched s pci number o → Translated s pci (located_by_row s.control.look_aside s.lines pci (entry_at s number pci) (page_of_row s.control.look_aside o))
   by_found None f = by_content f _ refl
-  by_found (Some i) f = by_row number i f
+  by_found (Some i) f = by_held (row s.control.look_aside i) refl
+    where
+      by_held : (r : Option LookAsideRow) → row s.control.look_aside i ≡ r → Translated s pci (located_by_row s.control.look_aside s.lines pci (entry_at s number pci) (page_in r))
+      by_held None e = absurd (both_ways _ (ap (λ r. answers_in r (pci_page pci)) e) (f.finds.1 None))
+      by_held (Some r) e = by_row number i r.page f (ap page_in e)
 
   by_window : (b : Bool) → mapped (window s.control.registers number) ≡ b → Translated s pci (located_by_window s.control.look_aside s.lines pci (window s.control.registers number) b)
   by_window true m = by_found _ (record { holder = holder; is_mapped = m; finds = first_finds (λ r. answers_in r (pci_page pci)) s.control.look_aside.rows })

@@ -110,7 +110,7 @@ module _ (r : Registers) (lines : Lines) (first : LeadsApart r.first) (second : 
   low_closed : (page : ℕ) → page < 3 → Open (state_with r lines) page → ⊥
   low_closed page low (inl p) = omega (arith, reached page p)
   low_closed page low (inr (inl n)) = omega (arith, named page n)
-  low_closed page low (inr (inr c)) = none_valid 8 c.index c.valid
+  low_closed page low (inr (inr c)) = none_valid 8 c.index page c.named
 
   protected_with : Protected page_2 (state_with r lines)
   protected_with = record {

@@ -61,8 +61,8 @@ faults_since met s (c ∷ cs) = faults_since (faults_then met s c) (performed s 
 -- the log of some faults: the first of them, and whether there are others
 abbrev pub log_of : List FaultRecord → FaultLog
 log_of [] = empty_log
-log_of (f ∷ []) = record { first = Some f; missed = false }
-log_of (f ∷ g ∷ faults) = record { first = Some f; missed = true }
+log_of (f ∷ []) = record { reading = Some (record { first = f; missed = false }) }
+log_of (f ∷ g ∷ faults) = record { reading = Some (record { first = f; missed = true }) }
 
 -- a new bridge's log after any list of calls is that of the faults since the last clear
 abbrev pub LogKeepsTheFirst : Type 0

@@ -1,7 +1,8 @@
 -- The register map: what each register reads, what reads back after a write, what a write leaves, and which numbers are refused.
-use Rattle.std.specs.Prelude.{◌≡◌, ℕ, ◌+◌, ◌-◌, ◌<◌, ◌≤◌, Bool, false, cond, ◌&&◌, ◌||◌, ◌⊎◌, [], ◌∷◌, ◌==◌, ◌≢◌}
+use Rattle.std.specs.Prelude.{◌≡◌, ℕ, ◌+◌, ◌-◌, ◌<◌, ◌≤◌, Bool, true, false, cond, ◌&&◌, ◌||◌, ◌⊎◌, [], ◌∷◌, Some, None, Option, ◌==◌, ◌≢◌}
 use Rattle.memory.specs.Answers.{Answer, success, refusal}
 use Rattle.memory.specs.Content.{bit}
+use Rattle.bridge.specs.declared.look_aside.LookAsideRow.{LookAsideRow}
 use Rattle.bridge.specs.Bits.{in_range}
 use Rattle.bridge.specs.Calls.{Call, performed, processor, register_read, register_write}
 use Rattle.bridge.specs.LookAside.{row, zero_rows}
@@ -66,8 +67,17 @@ pub record ReadsOne (s : State) (n : ℕ) (has_bit : ℕ → Bool) : Type 0 wher
   pub read : read_of s n ≡ success (value ∷ [])
   pub bits : (i : ℕ) → bit value i ≡ has_bit i
 
--- which part of the bridge's own record each register reads: of a row's tag, bits 31:13 are the PCI page and 12 is the valid
--- bit; of its data, 20:1 are the page number
+-- of a valid row's tag, bits 31:13 are the PCI page and 12 is 1; of its data, 20:1 are the page number; a row that is not valid
+-- has no bit set in either
+abbrev pub tag_bit : Option LookAsideRow → ℕ → Bool
+tag_bit None i = false
+tag_bit (Some r) i = cond (i == 12) true (in_range 13 31 i && bit r.pci_page (i - 13))
+
+abbrev pub data_bit : Option LookAsideRow → ℕ → Bool
+data_bit None i = false
+data_bit (Some r) i = in_range 1 20 i && bit r.page (i - 1)
+
+-- which part of the bridge's own record each register reads
 pub record Parts (s : State) : Type 0 where
   pub translated_1 : read_of s 6 ≡ success (s.control.registers.first.translated ∷ [])
   pub translated_2 : read_of s 7 ≡ success (s.control.registers.second.translated ∷ [])
@@ -77,8 +87,8 @@ pub record Parts (s : State) : Type 0 where
   pub mask_2 : read_of s 11 ≡ success (s.control.registers.second.mask ∷ [])
   pub haxr1 : read_of s 13 ≡ success (s.control.registers.haxr1 ∷ [])
   pub haxr2 : read_of s 14 ≡ success (s.control.registers.haxr2 ∷ [])
-  pub tag : (k : ℕ) → k < 8 → ReadsOne s (16 + k) (λ i. cond (i == 12) (row s.control.look_aside k).valid (in_range 13 31 i && bit (row s.control.look_aside k).pci_page (i - 13)))
-  pub page_number : (k : ℕ) → k < 8 → ReadsOne s (24 + k) (λ i. in_range 1 20 i && bit (row s.control.look_aside k).page (i - 1))
+  pub tag : (k : ℕ) → k < 8 → ReadsOne s (16 + k) (tag_bit (row s.control.look_aside k))
+  pub page_number : (k : ℕ) → k < 8 → ReadsOne s (24 + k) (data_bit (row s.control.look_aside k))
 
 pub record RegisterMap : Type 0 where
   pub reads_back : (s : State) (n v : ℕ) → Writable n → ReadsBack s n v

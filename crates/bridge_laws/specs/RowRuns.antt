@@ -1,5 +1,5 @@
 -- How long a look-aside row serves, and what can be in one.
-use Rattle.std.specs.Prelude.{◌≡◌, ℕ, ◌+◌, ◌/◌, ◌<◌, true, false, ◌⊎◌, List, length, Some, ◌≢◌}
+use Rattle.std.specs.Prelude.{◌≡◌, ℕ, ◌+◌, ◌/◌, ◌<◌, true, ◌⊎◌, List, length, Some, None, Ok, Option, is_some, ◌≢◌}
 use Rattle.memory.specs.Content.{Lines}
 use Rattle.std.specs.List.{AllByRecursion}
 use Rattle.bridge.specs.declared.look_aside.LookAside.{LookAside}
@@ -9,20 +9,20 @@ use Rattle.bridge.specs.Calls.{Call, card, decode, load, log_clear, log_read, pe
 use Rattle.bridge.specs.Isolation.{after}
 use Rattle.bridge.specs.LookAside.{cached_page, filled, row}
 use Rattle.bridge.specs.State.{State, new_state}
-use Rattle.bridge.specs.Translation.{entry_of, located, names, page_address, pci_page, target}
+use Rattle.bridge.specs.Translation.{entry_of, located, page_address, pci_page, target}
 use Rattle.bridge.specs.Windows.{claim, entry_address}
 use Rattle.bridge.specs.Registers.{window}
 
 -- a row that was filled: for a PCI address that a mapped window claimed, from an entry that was valid and readable then
-pub record FilledRow (r : LookAsideRow) : Type 0 where
+pub record FilledRow (r : Option LookAsideRow) : Type 0 where
   pub registers : Registers
   pub lines : Lines
   pub pci : ℕ
   pub number : ℕ
   pub page : ℕ
   pub claimed : claim registers pci ≡ Some (number, true)
-  pub named : entry_of (lines (entry_address (window registers number) pci / 32)) (entry_address (window registers number) pci) ≡ names page
-  pub is : r ≡ record { valid = true; pci_page = pci_page pci; page = page }
+  pub named : entry_of (lines (entry_address (window registers number) pci / 32)) (entry_address (window registers number) pci) ≡ Ok page
+  pub is : r ≡ Some (record { pci_page = pci_page pci; page = page })
 
 -- the call is no write of register 32
 abbrev pub LeavesRows : Call → Type 0
@@ -47,11 +47,11 @@ RowsServe =
 
 -- every valid row of a bridge was filled from a valid entry
 abbrev pub RowsValid : Type 0
-RowsValid = (lines : Lines) (cs : List Call) (i : ℕ) → (row (after (new_state lines) cs).control.look_aside i).valid ≡ true → FilledRow (row (after (new_state lines) cs).control.look_aside i)
+RowsValid = (lines : Lines) (cs : List Call) (i : ℕ) → is_some (row (after (new_state lines) cs).control.look_aside i) ≡ true → FilledRow (row (after (new_state lines) cs).control.look_aside i)
 
 -- the row under the pointer is filled, the others stay, and the pointer goes on by one, from 7 to 0
 pub record FilledOnce (t : LookAside) (pci_page page : ℕ) : Type 0 where
-  pub here : row (filled t pci_page page) t.pointer ≡ record { valid = true; pci_page = pci_page; page = page }
+  pub here : row (filled t pci_page page) t.pointer ≡ Some (record { pci_page = pci_page; page = page })
   pub others : (i : ℕ) → (i ≢ t.pointer) → row (filled t pci_page page) i ≡ row t i
   pub next : t.pointer < 7 → (filled t pci_page page).pointer ≡ t.pointer + 1
   pub wraps : t.pointer ≡ 7 → (filled t pci_page page).pointer ≡ 0
@@ -61,7 +61,7 @@ RowsFill = (t : LookAside) (pci_page page : ℕ) → length t.rows ≡ 8 → Fil
 
 -- a write of register 32, whatever the value, leaves no row and the pointer at 0
 pub record NoneLeft (t : LookAside) : Type 0 where
-  pub rows : (i : ℕ) → row t i ≡ record { valid = false; pci_page = 0; page = 0 }
+  pub rows : (i : ℕ) → row t i ≡ None
   pub pointer : t.pointer ≡ 0
 
 abbrev pub RowsInvalidate : Type 0

@@ -6,7 +6,7 @@ use Rattle.memory.specs.declared.MemoryFault.TheVariants.{Absent, Spoiled}
 use Rattle.bridge.specs.declared.faults.WalkFault.TheVariants.{Memory, NotValid}
 use Rattle.bridge.specs.declared.registers.Registers.{Registers}
 use Rattle.bridge.specs.Bits.{bits}
-use Rattle.bridge.specs.LookAside.{filled, row, answers_in}
+use Rattle.bridge.specs.LookAside.{answers_in, filled, page_in, row}
 use Rattle.bridge.specs.Registers.{window}
 use Rattle.bridge.specs.State.{State}
 use Rattle.bridge.specs.Translation.{Located, entry_number, located, page_address, pci_page, table_fault, target, unclaimed}
@@ -35,8 +35,8 @@ pub data Translated (s : State) (pci : ℕ) : Located → Type 0 where
       → Translated s pci (record { look_aside = s.control.look_aside; place = unclaimed })
   by_plain_window : (number : ℕ) → FirstHolder s.control.registers pci number → mapped (window s.control.registers number) ≡ false
       → Translated s pci (record { look_aside = s.control.look_aside; place = target (plain_address (window s.control.registers number) pci) })
-  by_row : (number i : ℕ) → Searched s pci number (Some i)
-      → Translated s pci (record { look_aside = s.control.look_aside; place = target (page_address (row s.control.look_aside i).page pci) })
+  by_row : (number i page : ℕ) → Searched s pci number (Some i) → page_in (row s.control.look_aside i) ≡ Some page
+      → Translated s pci (record { look_aside = s.control.look_aside; place = target (page_address page pci) })
   by_entry : (number page : ℕ) (bytes : List ℕ) → Searched s pci number None → s.lines (entry_at s number pci / 32) ≡ good bytes
       → bit (entry_number bytes (entry_at s number pci)) 0 ≡ true → bits 20 1 (entry_number bytes (entry_at s number pci)) ≡ page
       → Translated s pci (record { look_aside = filled s.control.look_aside (pci_page pci) page; place = target (page_address page pci) })
