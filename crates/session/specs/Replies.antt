@@ -11,7 +11,8 @@ use Rattle.bridge.specs.declared.decode.Space.TheVariants.{SparseMemory, DenseMe
 use Rattle.bridge.specs.declared.log.Direction.{Direction}
 use Rattle.bridge.specs.declared.log.Direction.TheVariants.{Read, Write}
 use Rattle.bridge.specs.Bits.{flag}
-use Rattle.bridge.specs.BurstAnswers.{burst_cause, read_end_cause, write_end_cause, write_values}
+use Rattle.bridge.specs.BurstAnswers.{burst_cause, read_end_cause, write_end_cause}
+use Rattle.bridge.specs.Runs.{count_values}
 use Rattle.session.specs.declared.replies.LoggedFault.{LoggedFault}
 use Rattle.session.specs.declared.replies.Reply.{Reply}
 use Rattle.session.specs.declared.replies.Reply.TheVariants.{Done, Value, Refused, Decoded, EmptyLog, Logged, Longwords, Counts, ReadRefused, WriteRefused}
@@ -102,7 +103,7 @@ reply_text (Decoded c) = parenthesized "ok" (space_text c.space âˆ· hex c.pci âˆ
 reply_text EmptyLog = parenthesized "log" []
 reply_text (Logged f) = fault_text f
 reply_text (Longwords words) = ok_text (vec_items words)
-reply_text (Counts c) = ok_text (write_values c)
+reply_text (Counts c) = ok_text (count_values c)
 reply_text (ReadRefused e) = read_refusal_text e
 reply_text (WriteRefused e) = write_refusal_text e
 

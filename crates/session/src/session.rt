@@ -328,10 +328,10 @@ fn logged(reading: Option<LogReading>) -> Reply
     match reading {
         None => Reply::EmptyLog,
         Some(reading) => Reply::Logged(LoggedFault {
-            number: u64::from(reading.fault.number),
-            direction: reading.fault.direction,
-            pci: reading.fault.pci,
-            line: reading.fault.line,
+            number: u64::from(reading.first.fault.number()),
+            direction: reading.first.direction,
+            pci: reading.first.pci,
+            line: reading.first.fault.line(),
             missed: reading.missed,
         }),
     }
