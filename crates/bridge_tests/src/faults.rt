@@ -4,6 +4,7 @@ use crate::setup::{
 };
 use bridge::bursts::{BurstRefusal, ReadEnd, ReadRefusal, WriteEnd, WriteRefusal};
 use bridge::faults::{BurstFault, WalkFault};
+use bridge::log::Direction;
 use memory::MemoryFault;
 use memory::refusals::Refusal;
 use std::test::Fail;
@@ -19,7 +20,7 @@ fn an_entry_that_is_not_valid_fills_no_row(rt: HostRuntime) -> Result<(), Fail> 
             Trial::ReadAnswers(0x4000_0004, 2, ended(0, 0x4000_0004, fault), &[]),
             Trial::Logs(Logged {
                 number: 5,
-                is_write: false,
+                direction: Direction::Read,
                 pci: 0x4000_0004,
                 line: 0x100,
                 missed: false,
@@ -44,7 +45,7 @@ fn a_line_of_a_table_may_be_absent(rt: HostRuntime) -> Result<(), Fail> {
             Trial::ReadAnswers(0x4000_8000, 1, ended(0, 0x4000_8000, fault), &[]),
             Trial::Logs(Logged {
                 number: 6,
-                is_write: false,
+                direction: Direction::Read,
                 pci: 0x4000_8000,
                 line: 0x101,
                 missed: false,
@@ -66,7 +67,7 @@ fn a_line_of_a_table_may_be_spoiled(rt: HostRuntime) -> Result<(), Fail> {
             Trial::ReadAnswers(0x4000_2010, 1, ended(0, 0x4000_2010, fault), &[]),
             Trial::Logs(Logged {
                 number: 7,
-                is_write: false,
+                direction: Direction::Read,
                 pci: 0x4000_2010,
                 line: 0x100,
                 missed: false,
@@ -88,7 +89,7 @@ fn an_absent_target_has_its_row_filled(rt: HostRuntime) -> Result<(), Fail> {
             Trial::ReadAnswers(0x4000_0010, 2, absent(0, 0x4000_0010, 0x800), &[]),
             Trial::Logs(Logged {
                 number: 8,
-                is_write: false,
+                direction: Direction::Read,
                 pci: 0x4000_0010,
                 line: 0x800,
                 missed: false,
@@ -114,7 +115,7 @@ fn a_spoiled_target_of_a_read_has_its_row_filled(rt: HostRuntime) -> Result<(), 
             Trial::ReadAnswers(0x4000_201c, 2, ended(1, 0x4000_2020, fault), &[0x0101_0101]),
             Trial::Logs(Logged {
                 number: 9,
-                is_write: false,
+                direction: Direction::Read,
                 pci: 0x4000_2020,
                 line: 0x301,
                 missed: false,
@@ -135,7 +136,7 @@ fn the_log_keeps_the_first_fault_until_it_is_cleared(rt: HostRuntime) -> Result<
             Trial::WriteAnswers(0x4000_0044, &[5], &[15], Ok(counts(1, 0, 1))),
             Trial::Logs(Logged {
                 number: 8,
-                is_write: true,
+                direction: Direction::Write,
                 pci: 0x4000_0044,
                 line: 2,
                 missed: false,
@@ -143,7 +144,7 @@ fn the_log_keeps_the_first_fault_until_it_is_cleared(rt: HostRuntime) -> Result<
             Trial::ReadAnswers(0x4000_0068, 1, absent(0, 0x4000_0068, 3), &[]),
             Trial::Logs(Logged {
                 number: 8,
-                is_write: true,
+                direction: Direction::Write,
                 pci: 0x4000_0044,
                 line: 2,
                 missed: true,
@@ -153,7 +154,7 @@ fn the_log_keeps_the_first_fault_until_it_is_cleared(rt: HostRuntime) -> Result<
             Trial::ReadAnswers(0x4000_0068, 1, absent(0, 0x4000_0068, 3), &[]),
             Trial::Logs(Logged {
                 number: 8,
-                is_write: false,
+                direction: Direction::Read,
                 pci: 0x4000_0068,
                 line: 3,
                 missed: false,
@@ -172,7 +173,7 @@ fn a_write_that_dismisses_two_lines_is_missed_once(rt: HostRuntime) -> Result<()
             Trial::WriteAnswers(0x4000_003c, &[5; 10], &[15; 10], Ok(counts(10, 1, 2))),
             Trial::Logs(Logged {
                 number: 8,
-                is_write: true,
+                direction: Direction::Write,
                 pci: 0x4000_0040,
                 line: 2,
                 missed: true,

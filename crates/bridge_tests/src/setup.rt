@@ -107,7 +107,7 @@ pub(crate) fn banked(
 #[derive(Clone, Copy, Debug, PartialEq)]
 pub struct Logged {
     pub number: u8,
-    pub is_write: bool,
+    pub direction: Direction,
     pub pci: u32,
     pub line: u64,
     pub missed: bool,
@@ -116,10 +116,10 @@ pub struct Logged {
 fn log_of<M: Memory>(bridge: &Bridge<M>) -> Option<Logged> {
     let reading = bridge.log_read()?;
     Some(Logged {
-        number: reading.fault.number,
-        is_write: matches!(reading.fault.direction, Direction::Write),
-        pci: reading.fault.pci,
-        line: reading.fault.line,
+        number: reading.first.fault.number(),
+        direction: reading.first.direction,
+        pci: reading.first.pci,
+        line: reading.first.fault.line(),
         missed: reading.missed,
     })
 }

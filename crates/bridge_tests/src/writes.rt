@@ -1,6 +1,7 @@
 // What a card write stores, and where it ends.
 use crate::setup::{Logged, MAPPED, MEGABYTE, PLAIN, Trial, counts, flat, marked, play};
 use bridge::bursts::{BurstRefusal, WriteEnd};
+use bridge::log::Direction;
 use std::test::Fail;
 
 #[test]
@@ -53,7 +54,7 @@ fn a_line_with_no_byte_enabled_is_stored_or_dismissed(rt: HostRuntime) -> Result
             Trial::WriteAnswers(0x4000_0060, &[7], &[0], Ok(counts(1, 0, 1))),
             Trial::Logs(Logged {
                 number: 8,
-                is_write: true,
+                direction: Direction::Write,
                 pci: 0x4000_0060,
                 line: 3,
                 missed: false,
@@ -101,7 +102,7 @@ fn a_faulty_line_between_good_ones_is_dismissed_alone(rt: HostRuntime) -> Result
             Trial::Holds(0x4014, 0),
             Trial::Logs(Logged {
                 number: 8,
-                is_write: true,
+                direction: Direction::Write,
                 pci: 0x4000_1fe0,
                 line: 0x3ff,
                 missed: false,
@@ -150,7 +151,7 @@ fn a_write_ends_at_a_window_behind_a_line_dismissed(rt: HostRuntime) -> Result<(
             ),
             Trial::Logs(Logged {
                 number: 5,
-                is_write: true,
+                direction: Direction::Write,
                 pci: 0x400f_fff8,
                 line: 0x11f,
                 missed: false,
