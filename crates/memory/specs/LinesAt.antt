@@ -1,22 +1,18 @@
 -- Masked writes, and lines that lie in a run of bytes.
-use Rattle.std.specs.Prelude.{◌≡◌, ℕ, zero, suc, ◌+◌, ◌<◌, ◌≤◌, Bool, true, cond, ◌&&◌, ◌⊎◌, List, length, take, drop, Some, None, Option, ◌≢◌, nat_le, slice_index, refl}
+use Rattle.std.specs.Prelude.{◌≡◌, ℕ, ◌+◌, ◌<◌, ◌≤◌, true, cond, ◌⊎◌, List, length, take, drop, Some, None, Option, ◌≢◌, nat_le, slice_index, refl}
 use Rattle.std.proofs.Common.{sym, ap, ◌∙◌, inl, inr, ⊎_elim, arith}
 use Rattle.std.proofs.Math.Path.{fun_ext}
 use borrow.Rule.Slice.PartMut.{put_mid}
 use Rattle.std.proofs.lemmas.List.{places, same_lists, length-take, length-drop, length-append}
-use Rattle.std.proofs.lemmas.Bool.Decides.{Decides-below_and, nat_tests}
+use Rattle.std.proofs.lemmas.Bool.Decides.{nat_tests}
 use Rattle.std.proofs.lemmas.Bool.{cond-true, cond-false, eq-eqb, ne_eqb, cases_Bool, cases_eq, le-leb}
+use Rattle.std.proofs.lemmas.Nat.Bits.{bit_at_ones}
 use Rattle.std.proofs.lemmas.List.FromFn.{fill_by_all, length-map-range_with_len}
 use Rattle.memory.specs.Content.{Has32Bytes, all_ones, bit, good, merged, overwritten, written}
 use Rattle.memory.specs.Layouts.{Apart, Places, at_place, inside, laid_out}
 
-all_below : (ℕ → Bool) → ℕ → Bool
-all_below p zero = true
-all_below p (suc n) = p n && all_below p n
-
 pub ones_set : (k : ℕ) → k < 32 → bit all_ones k ≡ true
-unfolding all_below
-ones_set = (Decides-below_and (bit all_ones) (λ k. bit all_ones k ≡ true) (all_below (bit all_ones)) (λ k. (λ e. e, λ e. e)) refl (λ _. refl) 32).0 refl
+ones_set k h = eq-eqb _ _ (bit_at_ones 32 k h)
 
 -- 32 bytes that are the merged ones place by place
 pub merged_places : (mask : ℕ) (old new now : List ℕ) → length now ≡ 32 → ((k : ℕ) → k < 32 → slice_index now k ≡ cond (bit mask k) (slice_index new k) (slice_index old k)) → now ≡ merged mask old new
