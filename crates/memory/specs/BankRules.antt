@@ -1,9 +1,9 @@
 -- The checks of a bank list are its rules.
-use Rattle.std.specs.Prelude.{◌≡◌, ℕ, zero, suc, ◌+◌, ◌<◌, ◌≤◌, true, false, List, [], length, take, drop, is_some, Some, None, Option, ◌≢◌, nat_le, refl}
+use Rattle.std.specs.Prelude.{◌≡◌, ℕ, zero, suc, ◌+◌, ◌<◌, ◌≤◌, true, List, [], length, take, drop, Some, None, Option, ◌≢◌, nat_le, refl}
 use Rattle.std.proofs.Common.{sym, ap, subst, ◌∙◌, ⊎_elim, arith, below_more}
 use Rattle.std.proofs.lemmas.Nat.{pow_pos}
 use Rattle.std.proofs.lemmas.List.{at_drop_all, at_drop_more, get_or-take, length-take, take_more}
-use Rattle.std.proofs.lemmas.Bool.{cases_Bool, cases_lt, cond-true, cond-false, eq-eqb, le-leb, leb-true, leb-false, true≢false}
+use Rattle.std.proofs.lemmas.Bool.{cases_Bool, cases_lt, cond-true, cond-false, eq-eqb, le-leb, leb-true, leb-false}
 use Rattle.std.proofs.lemmas.Bool.Decides.{nat_tests}
 use Rattle.std.proofs.lemmas.List.Recursion.{and_from_places}
 use Rattle.std.proofs.lemmas.List.Sums.{AllPass-from_list_all}
@@ -109,10 +109,6 @@ judged banks n =
     (λ t. subst (λ f. Judged banks n (answer_by f)) (sym (cond-false _ _ _ t)) (refl, (8, refl, by_count (λ counted. grind (arith, nat_tests)))))
     (cases_Bool (count_fits (length banks)))
 
-admitted_by : (banks : List Bank) (n : ℕ) (o : Option BankListRefusal) → list_fault banks n ≡ o → is_some o ≡ false → Admitted banks n
-admitted_by banks n None e h = (subst (λ f. Judged banks n (answer_by f)) e (judged banks n)).0
-admitted_by banks n (Some fault) e h = absurd (true≢false h)
-
 -- a list without a fault is admitted
-pub admitted : (banks : List Bank) (n : ℕ) → is_some (list_fault banks n) ≡ false → Admitted banks n
-admitted banks n h = admitted_by banks n _ refl h
+pub admitted : (banks : List Bank) (n : ℕ) → list_fault banks n ≡ None → Admitted banks n
+admitted banks n e = (subst (λ f. Judged banks n (answer_by f)) e (judged banks n)).0
