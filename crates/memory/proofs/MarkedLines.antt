@@ -1,6 +1,7 @@
 -- What the lines hold under marks after a mark and after a full write.
 use Rattle.std.proofs.Common.{◌≡◌, ℕ, Bool, true, false, cond, not, ◌&&◌, eqb, List, [], ◌∷◌, ◌++◌, length, sym, refl, ap, ◌∙◌, ⊎_elim}
 use mathlib.Core.Path.{fun_ext}
+use Rattle.std.proofs.Math.Bool.{and-true}
 use Rattle.std.proofs.lemmas.Bool.{and_right, cases_eq, cond-false, cond-true, eq-eqb, false≢true, ne_eqb, or_left}
 use Rattle.memory.specs.declared.marks.Mark.{Mark}
 use Rattle.memory.specs.Answers.{success}
@@ -16,10 +17,6 @@ full_over bytes mask l full true spoiled = refl
 full_over bytes mask l full true (good old) = rw full (ap good (sym (merged_full old bytes l)))
 full_over bytes mask l full false c = refl
 
-and_not_false : (m e : Bool) → e ≡ false → (m && not e) ≡ m
-and_not_false true e h = ap not h
-and_not_false false e h = refl
-
 spoil_present : (c : Content) → is_present c ≡ true → spoil c ≡ spoiled
 spoil_present absent h = absurd (false≢true h)
 spoil_present spoiled h = refl
@@ -31,8 +28,7 @@ full_write marks after below wrote line mask bytes l full w goes = fun_ext (λ k
     ⊎_elim
     (λ e. let t = eq-eqb k line e in
     cond-false _ _ _ (goes k ∙ and_right _ _ (ap not t)) ∙ here ∙ cond-true _ _ _ t ∙ full_over bytes mask l full (marked marks k) (below k) ∙ sym (cond-true _ _ _ t))
-    (λ ne. let t = ne_eqb k line ne in
-    rw (goes k ∙ and_not_false _ _ t, here ∙ cond-false _ _ _ t) (sym (cond-false _ _ _ t)))
+    (λ ne. rw (goes k, here, ne_eqb k line ne, and-true))
     (cases_eq k line))
 
 pub mark_after : (marks after : List Mark) (m : Mark) (below : Lines) → after ≡ marks ++ m ∷ [] → is_present (below m.line) ≡ true → under_marks after below ≡ lines_marked (success []) m.line (under_marks marks below)
