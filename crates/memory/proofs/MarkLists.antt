@@ -26,7 +26,8 @@ marked_push marks m line = list_any-append (At line) marks (m ∷ []) ∙ grind 
 
 pub distinct_push : (marks : List Mark) (m : Mark) → Distinct marks → marked marks m.line ≡ false → Distinct (marks ++ m ∷ [])
 distinct_push marks m d none =
-    all_pairs_push (λ a b. a.line ≢ b.line) marks m d (λ k e h same. false≢true (sym none ∙ list_any_at (At m.line) marks k e h (eq-eqb _ _ same)))
+    all_pairs_push (λ a b. a.line ≢ b.line) marks m d
+    (λ k e h same. false≢true (sym none ∙ list_any_at (At m.line) marks k e h (eq-eqb _ _ same)))
 
 -- what the search found is what is left out
 pub removed_is : (marks : List Mark) (i line : ℕ) → Finds (At line) marks (Some i) → remove marks i ≡ without marks line
@@ -54,7 +55,8 @@ head_stays a k line false h = grind (arith, nat_tests)
 pub unmarked : (marks : List Mark) (line : ℕ) → Distinct marks → (k : ℕ) → marked (without marks line) k ≡ (marked marks k && not (eqb k line))
 unmarked [] line d k = refl
 unmarked (x ∷ marks) line d k =
-    let alone : marked marks x.line ≡ false = unmarked_from marks x.line (λ i h. ne_eqb _ _ (λ e. d 0 (suc i) _ (omega arith) (omega arith) (sym e))) in
+    let alone : marked marks x.line ≡ false =
+    unmarked_from marks x.line (λ i h. ne_eqb _ _ (λ e. d 0 (suc i) _ (omega arith) (omega arith) (sym e))) in
     ⊎_elim
     (λ t. ap (λ xs. marked xs k) (cond-true (eqb x.line line) marks (x ∷ without marks line) t)
     ∙ head_goes x.line k line (marked marks k) t (λ e. ap (marked marks) (e ∙ sym (eqb-true _ _ t)) ∙ alone))

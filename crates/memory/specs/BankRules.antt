@@ -1,6 +1,6 @@
 -- The checks of a bank list are its rules.
 use Rattle.std.specs.Prelude.{◌≡◌, ℕ, zero, suc, ◌+◌, ◌<◌, ◌≤◌, true, List, [], length, take, drop, Some, None, Option, ◌≢◌, nat_le, refl}
-use Rattle.std.proofs.Common.{sym, ap, subst, ◌∙◌, ⊎_elim, arith, below_more}
+use Rattle.std.proofs.Common.{sym, subst, ◌∙◌, ⊎_elim, arith, below_more}
 use Rattle.std.proofs.lemmas.Nat.{pow_pos}
 use Rattle.std.proofs.lemmas.List.{at_drop_all, at_drop_more, get_or-take, length-take, take_more}
 use Rattle.std.proofs.lemmas.Bool.{cases_Bool, cases_lt, cond-true, cond-false, eq-eqb, le-leb, leb-true, leb-false}
@@ -48,7 +48,10 @@ sound_none before b room s =
     cond-true _ _ _ (power_fits b.size s.size)
     ∙ cond-true _ _ _ (eq-eqb _ _ s.base)
     ∙ cond-true _ _ _ (le-leb _ _ s.below)
-    ∙ cond-true _ _ _ (and_from_places (λ xs. clear xs b) (λ a. apart a b) refl (λ _ _. refl) before _ (λ k h. alone_apart (nth before k) b (room k h) (power_room b.size s.size) (λ address. s.alone k address h)))
+    ∙ cond-true _ _ _ (and_from_places (λ xs. clear xs b) (λ a. apart a b) refl (λ _ _. refl) before _ free)
+  where
+    free : (k : ℕ) → k < length before → apart (nth before k) b ≡ true
+    free k h = alone_apart (nth before k) b (room k h) (power_room b.size s.size) (λ address. s.alone k address h)
 
 -- the banks before one have room
 rooms : (banks : List Bank) (i : ℕ) → SoundUntil banks i → (k : ℕ) → k < length (take i banks) → 0 < (nth (take i banks) k).size
@@ -57,16 +60,10 @@ rooms banks i sound k h =
     rw get_or-take (power_room _ (sound k l).size)
 
 -- one bank more of those that are judged
-judge_more : (banks : List Bank) (i : ℕ) → i < length banks → fault_from i (take i banks) (drop i banks) ≡ blamed i (bank_fault (take i banks) (nth banks i)) (fault_from (i + 1) (take (i + 1) banks) (drop (i + 1) banks))
-judge_more banks i h =
+judge_more : (banks : List Bank) (i : ℕ) (o : Option BankFault) → i < length banks → bank_fault (take i banks) (nth banks i) ≡ o → fault_from i (take i banks) (drop i banks) ≡ blamed i o (fault_from (i + 1) (take (i + 1) banks) (drop (i + 1) banks))
+judge_more banks i o h e =
     at_drop_more (fault_from i (take i banks)) banks i (record { base = 0; size = 0 }) h
-    ∙ ap (λ before. blamed i (bank_fault (take i banks) (nth banks i)) (fault_from (i + 1) before (drop (i + 1) banks))) (sym (take_more banks i (record { base = 0; size = 0 }) h))
-
-judge_fault : (banks : List Bank) (i : ℕ) (fault : BankFault) → i < length banks → bank_fault (take i banks) (nth banks i) ≡ Some fault → fault_from i (take i banks) (drop i banks) ≡ Some (R.Bank i fault)
-judge_fault banks i fault h e = judge_more banks i h ∙ ap (λ o. blamed i o (fault_from (i + 1) (take (i + 1) banks) (drop (i + 1) banks))) e
-
-judge_sound : (banks : List Bank) (i : ℕ) → i < length banks → bank_fault (take i banks) (nth banks i) ≡ None → fault_from i (take i banks) (drop i banks) ≡ fault_from (i + 1) (take (i + 1) banks) (drop (i + 1) banks)
-judge_sound banks i h e = judge_more banks i h ∙ ap (λ o. blamed i o (fault_from (i + 1) (take (i + 1) banks) (drop (i + 1) banks))) e
+    ∙ rw (e, take_more banks i (record { base = 0; size = 0 }) h) refl
 
 judge_all : (banks : List Bank) (i : ℕ) → length banks ≤ i → fault_from i (take i banks) (drop i banks) ≡ None
 judge_all banks i h = at_drop_all (fault_from i (take i banks)) banks i h
@@ -80,9 +77,9 @@ Outcome banks (Some R.Total) = ⊥
 
 judged_at : (banks : List Bank) (i : ℕ) → i < length banks → SoundUntil banks i → (SoundUntil banks (i + 1) → Outcome banks (fault_from (i + 1) (take (i + 1) banks) (drop (i + 1) banks))) → (o : Option BankFault) → bank_fault (take i banks) (nth banks i) ≡ o → Outcome banks (fault_from i (take i banks) (drop i banks))
 judged_at banks i here sound later None f =
-    subst (Outcome banks) (sym (judge_sound banks i here f)) (later (below_more _ _ sound (none_sound _ _ f)))
+    subst (Outcome banks) (sym (judge_more banks i _ here f)) (later (below_more _ _ sound (none_sound _ _ f)))
 judged_at banks i here sound later (Some fault) f =
-    subst (Outcome banks) (sym (judge_fault banks i fault here f))
+    subst (Outcome banks) (sym (judge_more banks i _ here f))
     (here, sound, λ s. none-some fault (sym (sound_none _ _ (rooms banks i sound) s) ∙ f))
 
 judged_from : (turns : ℕ) (banks : List Bank) (i : ℕ) → length banks ≡ i + turns → SoundUntil banks i → Outcome banks (fault_from i (take i banks) (drop i banks))

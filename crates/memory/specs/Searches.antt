@@ -11,10 +11,12 @@ pub finds_first : {X : Type 0} (p : X → Bool) (xs : List X) (o : Option ℕ) �
 finds_first p [] None f = refl
 finds_first p [] (Some i) f = absurd (omega (arith, f.0))
 finds_first p (x ∷ xs) None f =
-    let e : position_or_len p (x ∷ xs) ≡ length (x ∷ xs) = position_or_len_is p (x ∷ xs) (length (x ∷ xs)) x (omega arith) (λ k h. f k x (omega arith) h) (λ h. absurd (omega arith)) in
+    let e : position_or_len p (x ∷ xs) ≡ length (x ∷ xs) =
+    position_or_len_is p (x ∷ xs) _ x (omega arith) (λ k h. f k x (omega arith) h) (λ h. absurd (omega arith)) in
     sym (cond-false _ _ _ (le-ltb (position_or_len p (x ∷ xs)) (length (x ∷ xs)) (omega arith)))
 finds_first p (x ∷ xs) (Some i) f =
-    let e : position_or_len p (x ∷ xs) ≡ i = position_or_len_is p (x ∷ xs) i x (omega (arith, f.0)) (λ k h. f.2 k x (omega arith) h) (λ h. f.1 x) in
+    let e : position_or_len p (x ∷ xs) ≡ i =
+    position_or_len_is p (x ∷ xs) i x (omega (arith, f.0)) (λ k h. f.2 k x (omega arith) h) (λ h. f.1 x) in
     ap Some (sym e) ∙ sym (cond-true _ _ _ (lt-ltb (position_or_len p (x ∷ xs)) (length (x ∷ xs)) (omega (arith, f.0))))
 
 -- the definition meets the relation

@@ -5,5 +5,6 @@ use Rattle.memory.proofs.layout.LaidMemory.write.Goals as goal
 
 pub returns-clause-after : goal.returns-clause-after
 returns-clause-after g c =
-    written_laid_out _ _ _ _ _ _ _ _ (g.met.L.Layout.apart c.args.self.now.layout) (omega arith) (sym c.offset_of.ensures ∙ c.in_ok-at.ensures.ok_part)
+    written_laid_out _ _ _ _ _ _ _ _ (g.met.L.Layout.apart c.args.self.now.layout) (omega arith)
+    (sym c.offset_of.ensures ∙ c.in_ok-at.ensures.ok_part)
     (with_items_is c.args.self.now.bytes c.put.new.bytes (omega arith) ∙ simp c.deref_mut.ensures.value at c.put.ensures)

@@ -6,5 +6,7 @@ use Rattle.memory.proofs.marks.layer.MarksMemory.write.Goals as goal
 
 pub returns-then-mask-eq4294967295-clause-after : goal.returns-then-mask-eq4294967295-clause-after
 returns-then-mask-eq4294967295-clause-after g c =
-    full_write c.args.self.now.marks.items _ (g.M.Memory.content c.args.self.now.below) _ _ _ _ c.told-bytes c.if-mask-eq4294967295.true
-    (ap g.M.Memory.content c.unmark.ensures.below ∙ c.write.ensures.after) (λ k. ap (λ xs. marked xs k) c.unmark.ensures.marks ∙ unmarked c.args.self.now.marks.items c.args.line c.args.self.now.apart k)
+    let marks = c.args.self.now.marks.items in
+    full_write marks _ (g.M.Memory.content c.args.self.now.below) _ _ _ _ c.told-bytes c.if-mask-eq4294967295.true
+    (ap g.M.Memory.content c.unmark.ensures.below ∙ c.write.ensures.after)
+    (λ k. ap (λ xs. marked xs k) c.unmark.ensures.marks ∙ unmarked marks c.args.line c.args.self.now.apart k)
