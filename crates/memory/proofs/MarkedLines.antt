@@ -1,6 +1,7 @@
 -- What the lines hold under marks after a mark and after a full write.
 use Rattle.std.proofs.Common.{◌≡◌, ℕ, Bool, true, false, cond, not, ◌&&◌, eqb, List, [], ◌∷◌, ◌++◌, length, sym, refl, ap, ◌∙◌, ⊎_elim}
 use mathlib.Core.Path.{fun_ext}
+use Rattle.std.proofs.Math.Bool.{and-true}
 use Rattle.std.proofs.lemmas.Bool.{and_right, cases_eq, cond-false, cond-true, eq-eqb, false≢true, ne_eqb, or_left}
 use Rattle.memory.specs.declared.marks.Mark.{Mark}
 use Rattle.memory.specs.Answers.{success}
@@ -16,10 +17,6 @@ full_over bytes mask l full true spoiled = refl
 full_over bytes mask l full true (good old) = rw full (ap good (sym (merged_full old bytes l)))
 full_over bytes mask l full false c = refl
 
-and_not_false : (m e : Bool) → e ≡ false → (m && not e) ≡ m
-and_not_false true e h = ap not h
-and_not_false false e h = refl
-
 spoil_present : (c : Content) → is_present c ≡ true → spoil c ≡ spoiled
 spoil_present absent h = absurd (false≢true h)
 spoil_present spoiled h = refl
@@ -31,25 +28,8 @@ full_write marks after below wrote line mask bytes l full w goes = fun_ext (λ k
     ⊎_elim
     (λ e. let t = eq-eqb k line e in
     cond-false _ _ _ (goes k ∙ and_right _ _ (ap not t)) ∙ here ∙ cond-true _ _ _ t ∙ full_over bytes mask l full (marked marks k) (below k) ∙ sym (cond-true _ _ _ t))
-    (λ ne. let t = ne_eqb k line ne in
-    rw (goes k ∙ and_not_false _ _ t, here ∙ cond-false _ _ _ t) (sym (cond-false _ _ _ t)))
+    (λ ne. rw (goes k, here, ne_eqb k line ne, and-true))
     (cases_eq k line))
-
--- a partial write leaves a spoiled line spoiled, marked or not
-part_over : (bytes : List ℕ) (mask : ℕ) → eqb mask all_ones ≡ false → (c : Content) → spoil (overwritten bytes mask c) ≡ overwritten bytes mask (spoil c)
-part_over bytes mask part absent = refl
-part_over bytes mask part spoiled = ap spoil (cond-false _ _ _ part) ∙ sym (cond-false _ _ _ part)
-part_over bytes mask part (good old) = sym (cond-false _ _ _ part)
-
-part_at : (bytes : List ℕ) (mask : ℕ) → eqb mask all_ones ≡ false → (m e : Bool) (c : Content) → cond m (spoil (cond e (overwritten bytes mask c) c)) (cond e (overwritten bytes mask c) c) ≡ cond e (overwritten bytes mask (cond m (spoil c) c)) (cond m (spoil c) c)
-part_at bytes mask part true true c = part_over bytes mask part c
-part_at bytes mask part true false c = refl
-part_at bytes mask part false true c = refl
-part_at bytes mask part false false c = refl
-
-pub part_write : (marks : List Mark) (below wrote : Lines) (line mask : ℕ) (bytes : List ℕ) → (mask ≡ all_ones → ⊥) → wrote ≡ written line bytes mask below → under_marks marks wrote ≡ written line bytes mask (under_marks marks below)
-part_write marks below wrote line mask bytes part w =
-    ap (under_marks marks) w ∙ fun_ext (λ k. part_at bytes mask (ne_eqb mask all_ones part) (marked marks k) (eqb k line) (below k))
 
 pub mark_after : (marks after : List Mark) (m : Mark) (below : Lines) → after ≡ marks ++ m ∷ [] → is_present (below m.line) ≡ true → under_marks after below ≡ lines_marked (success []) m.line (under_marks marks below)
 mark_after marks after m below e p = fun_ext (λ k.
@@ -58,10 +38,3 @@ mark_after marks after m below e p = fun_ext (λ k.
     (λ s. cond-true _ _ _ (more ∙ or_left _ _ (eq-eqb m.line k (sym s))) ∙ spoil_present (below k) (ap (λ i. is_present (below i)) s ∙ p) ∙ sym (cond-true _ _ _ (eq-eqb k m.line s)))
     (λ ne. rw (more, ne_eqb m.line k (λ s. ne (sym s)), ne_eqb k m.line ne))
     (cases_eq k m.line))
-
-pub mark_again : (marks : List Mark) (below : Lines) (line : ℕ) → marked marks line ≡ true → is_present (below line) ≡ true → under_marks marks below ≡ lines_marked (success []) line (under_marks marks below)
-mark_again marks below line t p = fun_ext (λ k.
-    ⊎_elim
-    (λ s. cond-true _ _ _ (ap (marked marks) s ∙ t) ∙ spoil_present (below k) (ap (λ i. is_present (below i)) s ∙ p) ∙ sym (cond-true _ _ _ (eq-eqb k line s)))
-    (λ ne. sym (cond-false _ _ _ (ne_eqb k line ne)))
-    (cases_eq k line))

@@ -6,6 +6,7 @@ use Rattle.std.proofs.lemmas.List.{get_or-take, length-take, take-take}
 use Rattle.std.proofs.lemmas.List.Sums.{sum_by_more, sum_by-take-le}
 use Rattle.std.proofs.lemmas.Bool.{and_cases, and_from, and_left, and_right, cases_Bool, cases_order, cond-true, cond-false, false≢true, le-leb, le-ltb, leb-false, lt-leb, lt-ltb, ltb-false}
 use Rattle.std.proofs.lemmas.Bool.Decides.{nat_tests}
+use Rattle.std.proofs.lemmas.Option.{none-some, same_Some}
 use Rattle.memory.specs.declared.banks.Bank.{Bank}
 use Rattle.memory.specs.Content.{is_present}
 use Rattle.memory.specs.Layouts.{Apart, at_place}
@@ -14,24 +15,12 @@ use Rattle.memory.specs.Banks.{ExactBanks, InABank, PowerSize, Sound, SoundUntil
 use Rattle.memory.specs.LinesAt.{inside_all}
 use Rattle.memory.specs.Searches.{finds_first, first_finds}
 
-some_is : {x y : ℕ} → Some x ≡ Some y → x ≡ y
-some_is e = cc
-
-none_some : (x : ℕ) → None ≢ Some x
-none_some x e = let z : ◌≡◌ {A = ℕ} 0 1 = cc in omega arith
-
 -- bank i ends where the bytes of the banks after it begin
-pub total_next : (banks : List Bank) (i : ℕ) → i < length banks → total (take i banks) + (nth banks i).size ≡ total (take (i + 1) banks)
+total_next : (banks : List Bank) (i : ℕ) → i < length banks → total (take i banks) + (nth banks i).size ≡ total (take (i + 1) banks)
 total_next banks i h = sym (sum_by_more (λ b. b.size) banks i (record { base = 0; size = 0 }) h)
-
-pub total_within : (banks : List Bank) (i : ℕ) → total (take i banks) ≤ total banks
-total_within banks i = sum_by-take-le (λ b. b.size) banks i
 
 total_later : (banks : List Bank) (i j : ℕ) → i ≤ j → total (take i banks) ≤ total (take j banks)
 total_later banks i j h = subst (λ xs. total xs ≤ total (take j banks)) (take-take i j banks h) (sum_by-take-le (λ b. b.size) (take j banks) i)
-
-pub holds_range : (b : Bank) (address : ℕ) → holds b address ≡ true → (b.base ≤ address) × (address < b.base + b.size)
-holds_range b address t = (grind (arith, nat_tests), grind (arith, nat_tests))
 
 -- base and size of a sound bank are multiples of 32
 power_lines : (size : ℕ) → PowerSize size → (q : ℕ) × (size ≡ q * 32)
@@ -58,7 +47,7 @@ line_fits {b = b} s line h =
     (from, omega arith)
 
 -- a sound bank holds an address exactly if it holds the first one of its line
-pub holds_line : {before : List Bank} {b : Bank} → Sound before b → (address : ℕ) → holds b (32 * (address / 32)) ≡ holds b address
+holds_line : {before : List Bank} {b : Bank} → Sound before b → (address : ℕ) → holds b (32 * (address / 32)) ≡ holds b address
 holds_line {b = b} s address =
     let l = sound_lines s in
     let base = l.0.1 in
@@ -87,14 +76,14 @@ record Lies (banks : List Bank) (line at : ℕ) : Type 0 where
   is : at ≡ total (take bank banks) + (32 * line - (nth banks bank).base)
 
 lies_in : (banks : List Bank) (line at : ℕ) (o : Option ℕ) → Finds (λ b. holds b (32 * line)) banks o → bank_offset banks (32 * line) o ≡ Some at → Lies banks line at
-lies_in banks line at None f e = absurd (none_some at e)
-lies_in banks line at (Some i) f e = record { bank = i; within = f.0; held = f.1 _; is = sym (some_is e) }
+lies_in banks line at None f e = absurd (none-some at e)
+lies_in banks line at (Some i) f e = record { bank = i; within = f.0; held = f.1 _; is = sym (same_Some _ _ e) }
 
 lies : (banks : List Bank) (line at : ℕ) → bank_places banks line ≡ Some at → Lies banks line at
 lies banks line at e =
     ⊎_elim
     (λ t. lies_in banks line at _ (first_finds (λ b. holds b (32 * line)) banks) (sym (cond-true _ _ _ t) ∙ e))
-    (λ t. absurd (none_some at (sym (cond-false _ _ _ t) ∙ e)))
+    (λ t. absurd (none-some at (sym (cond-false _ _ _ t) ∙ e)))
     (cases_Bool (nat_lt line 0xC000000))
 
 module _ (banks : List Bank) (sound : SoundUntil banks (length banks)) where
@@ -109,7 +98,7 @@ module _ (banks : List Bank) (sound : SoundUntil banks (length banks)) where
   places_within line at e =
       let l = lies banks line at e in
       let h = ends_in_bank line at l in
-      omega (arith, total_within banks (l.bank + 1))
+      omega (arith, sum_by-take-le (λ b. b.size) banks (l.bank + 1))
 
   -- a line of an earlier bank ends before one of a later bank begins
   earlier : (j k a b : ℕ) (l : Lies banks j a) (m : Lies banks k b) → l.bank < m.bank → a + 32 ≤ b
@@ -164,7 +153,7 @@ module _ (banks : List Bank) (sound : SoundUntil banks (length banks)) where
   in_a_bank bytes address b =
       let s = sound b.index b.within in
       let t = holds_line s address ∙ b.held in
-      let to : 32 * (address / 32) < (nth banks b.index).base + (nth banks b.index).size = (holds_range (nth banks b.index) (32 * (address / 32)) t).1 in
+      let to : 32 * (address / 32) < (nth banks b.index).base + (nth banks b.index).size = grind (arith, nat_tests) in
       let low : address / 32 < 0xC000000 = (let e = s.below in omega arith) in
       ap (λ o. is_present (at_place bytes o)) (cond-true _ _ _ (lt-ltb _ _ low)) ∙ in_place bytes (address / 32) b.index b.within t _ (first_finds (λ c. holds c (32 * (address / 32))) banks)
 

@@ -1,5 +1,7 @@
 -- Bank lists: which are admitted, what is wrong with any other, and where the lines of banks lie.
-use Rattle.std.specs.Prelude.{◌≡◌, ℕ, ◌+◌, ◌-◌, ◌*◌, ◌/◌, ◌%◌, ◌^◌, ◌<◌, ◌≤◌, Bool, true, cond, ◌&&◌, ◌||◌, List, [], ◌∷◌, ◌++◌, length, take, Some, None, Ok, Err, Decides, sum_by, Option, Result, ◌==◌, ◌≢◌, count_ones, nat_le, nat_lt, slice_index_or}
+use Rattle.std.specs.Prelude.{◌≡◌, ℕ, ◌+◌, ◌-◌, ◌*◌, ◌/◌, ◌%◌, ◌^◌, ◌<◌, ◌≤◌, Bool, true, cond, ◌&&◌, ◌||◌, List, [], ◌∷◌, ◌++◌, length, take, Some, None, Decides, sum_by, Option, ◌==◌, ◌≢◌, nat_le, nat_lt, slice_index_or}
+use Rattle.std.specs.Int.{is_power_of_two}
+use Rattle.std.specs.List.{list_all}
 use Rattle.memory.specs.declared.banks.Bank.{Bank}
 use Rattle.memory.specs.declared.banks.BankFault.{BankFault}
 use Rattle.memory.specs.declared.banks.BankFault.TheVariants.{Size, Base, End, Overlap}
@@ -23,15 +25,14 @@ holds b address = nat_le b.base address && nat_lt address (b.base + b.size)
 
 -- The checks. A size has one bit set, and lies from 2000h to 4000_0000h.
 abbrev pub size_fits : ℕ → Bool
-size_fits size = count_ones size == 1 && (nat_le 0x2000 size && nat_le size 0x4000_0000)
+size_fits size = is_power_of_two size && (nat_le 0x2000 size && nat_le size 0x4000_0000)
 
 -- one of two banks ends where the other begins, or before
 abbrev pub apart : Bank → Bank → Bool
 apart a b = nat_le (a.base + a.size) b.base || nat_le (b.base + b.size) a.base
 
 abbrev pub clear : List Bank → Bank → Bool
-clear [] b = true
-clear (a ∷ before) b = apart a b && clear before b
+clear before b = list_all (λ a. apart a b) before
 
 -- what is wrong with a bank behind others: its size, its base, its end, an overlap with one before it, in this order
 abbrev pub bank_fault : List Bank → Bank → Option BankFault
@@ -76,10 +77,6 @@ answer_by (Some fault) = refusal (list_cause fault).number (list_cause fault).va
 
 abbrev pub list_answer : List Bank → ℕ → Answer
 list_answer banks n = answer_by (list_fault banks n)
-
-abbrev pub fault_in : {L : Type 0} → Result L BankListRefusal → Option BankListRefusal
-fault_in (Ok list) = None
-fault_in (Err fault) = Some fault
 
 -- The rules. Sizes are the powers of two from 2000h to 4000_0000h.
 pub record PowerSize (size : ℕ) : Type 0 where

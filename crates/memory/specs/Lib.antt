@@ -7,7 +7,6 @@ pub mod Banks
 pub mod Marked
 pub mod Layers
 pub mod BankRules
-pub mod BankChecks
 pub mod Powers
 pub mod BankPlaces
 pub mod LinesAt

@@ -1,22 +1,19 @@
 -- Masked writes, and lines that lie in a run of bytes.
-use Rattle.std.specs.Prelude.{◌≡◌, ℕ, zero, suc, ◌+◌, ◌<◌, ◌≤◌, Bool, true, cond, ◌&&◌, ◌⊎◌, List, length, take, drop, Some, None, Option, ◌≢◌, nat_le, slice_index, refl}
+use Rattle.std.specs.Prelude.{◌≡◌, ℕ, ◌+◌, ◌-◌, ◌<◌, ◌≤◌, true, cond, ◌⊎◌, List, length, take, drop, Some, None, Option, ◌≢◌, nat_le, slice_index, refl}
 use Rattle.std.proofs.Common.{sym, ap, ◌∙◌, inl, inr, ⊎_elim, arith}
 use Rattle.std.proofs.Math.Path.{fun_ext}
 use borrow.Rule.Slice.PartMut.{put_mid}
-use Rattle.std.proofs.lemmas.List.{places, same_lists, length-take, length-drop, length-append}
-use Rattle.std.proofs.lemmas.Bool.Decides.{Decides-below_and, nat_tests}
+use Rattle.std.proofs.lemmas.List.{drop-take, length-take, length-drop}
+use Rattle.std.proofs.lemmas.Slice.{between-put_mid, drop-put_mid, take-put_mid_below}
+use Rattle.std.proofs.lemmas.Bool.Decides.{nat_tests}
 use Rattle.std.proofs.lemmas.Bool.{cond-true, cond-false, eq-eqb, ne_eqb, cases_Bool, cases_eq, le-leb}
+use Rattle.std.proofs.lemmas.Nat.Bits.{bit_at_ones}
 use Rattle.std.proofs.lemmas.List.FromFn.{fill_by_all, length-map-range_with_len}
 use Rattle.memory.specs.Content.{Has32Bytes, all_ones, bit, good, merged, overwritten, written}
 use Rattle.memory.specs.Layouts.{Apart, Places, at_place, inside, laid_out}
 
-all_below : (ℕ → Bool) → ℕ → Bool
-all_below p zero = true
-all_below p (suc n) = p n && all_below p n
-
 pub ones_set : (k : ℕ) → k < 32 → bit all_ones k ≡ true
-unfolding all_below
-ones_set = (Decides-below_and (bit all_ones) (λ k. bit all_ones k ≡ true) (all_below (bit all_ones)) (λ k. (λ e. e, λ e. e)) refl (λ _. refl) 32).0 refl
+ones_set k h = eq-eqb _ _ (bit_at_ones 32 k h)
 
 -- 32 bytes that are the merged ones place by place
 pub merged_places : (mask : ℕ) (old new now : List ℕ) → length now ≡ 32 → ((k : ℕ) → k < 32 → slice_index now k ≡ cond (bit mask k) (slice_index new k) (slice_index old k)) → now ≡ merged mask old new
@@ -30,13 +27,16 @@ pub length_merged : (mask : ℕ) (old new : List ℕ) → length (merged mask ol
 unfolding merged
 length_merged mask old new = simp length-map-range_with_len
 
--- a line of w bytes that is put at a place, read there and at a place apart (at the numeral 32 `grind` stops at its limit of depth)
+-- a line of w bytes that is put at a place, read there and at a place apart
 put_same : (w : ℕ) (bytes line : List ℕ) (at : ℕ) → at + w ≤ length bytes → length line ≡ w → take w (drop at (put_mid at w bytes line)) ≡ line
-put_same w bytes line at h l = same_lists _ _ (simp (length-take, length-drop, length-append) (omega arith)) (λ k d s. grind (arith, places))
+put_same w bytes line at h l =
+    let e : at + w - at ≡ w = omega arith in
+    ap (λ k. take k (drop at (put_mid at w bytes line))) (sym e) ∙ between-put_mid at w bytes line (at + w) (omega arith) (omega arith)
 
 put_apart : (w : ℕ) (bytes line : List ℕ) (at b : ℕ) → at + w ≤ length bytes → length line ≡ w → (b + w ≤ at) ⊎ (at + w ≤ b) → take w (drop b (put_mid at w bytes line)) ≡ take w (drop b bytes)
-put_apart w bytes line at b h l (inl a) = same_lists _ _ (simp (length-take, length-drop, length-append) (omega arith)) (λ k d s. grind (arith, places))
-put_apart w bytes line at b h l (inr a) = same_lists _ _ (simp (length-take, length-drop, length-append) (omega arith)) (λ k d s. grind (arith, places))
+put_apart w bytes line at b h l (inl a) =
+    sym (drop-take b w (put_mid at w bytes line)) ∙ ap (drop b) (take-put_mid_below at w bytes line (b + w) a (omega arith)) ∙ drop-take b w bytes
+put_apart w bytes line at b h l (inr a) = ap (take w) (drop-put_mid at w bytes line b a (omega arith) l)
 
 -- a place that counts is the layout's, and lies inside
 pub inside_is : (n : ℕ) (o : Option ℕ) (a : ℕ) → inside n o ≡ Some a → (o ≡ Some a) × (a + 32 ≤ n)

@@ -1,5 +1,6 @@
 -- Marks: a layer that spoils up to 32 lines of the memory below.
-use Rattle.std.specs.Prelude.{ℕ, Bool, true, false, cond, not, ◌&&◌, ◌||◌, List, [], ◌∷◌, ◌++◌, length, ◌==◌, nat_le}
+use Rattle.std.specs.Prelude.{ℕ, Bool, true, false, cond, not, ◌&&◌, AllPairs, List, [], ◌∷◌, ◌++◌, length, ◌==◌, ◌≢◌, nat_le}
+use Rattle.std.specs.List.{list_any}
 use Rattle.memory.specs.declared.marks.Mark.{Mark}
 use Rattle.memory.specs.declared.marks.MarkRefusal.{MarkRefusal}
 use Rattle.memory.specs.declared.marks.MarkRefusal.TheVariants.{Absent, Full}
@@ -7,13 +8,11 @@ use Rattle.memory.specs.Answers.{Answer, Cause, bare, success, refusal}
 use Rattle.memory.specs.Content.{Content, Lines, absent, spoiled, good, is_present, all_ones}
 
 abbrev pub marked : List Mark → ℕ → Bool
-marked [] line = false
-marked (m ∷ marks) line = m.line == line || marked marks line
+marked marks line = list_any (λ m. m.line == line) marks
 
 -- no line is marked twice
-abbrev pub distinct : List Mark → Bool
-distinct [] = true
-distinct (m ∷ marks) = not (marked marks m.line) && distinct marks
+abbrev pub Distinct : List Mark → Type 0
+Distinct marks = AllPairs (λ a b. a.line ≢ b.line) marks
 
 abbrev pub spoil : Content → Content
 spoil absent = absent

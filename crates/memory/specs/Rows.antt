@@ -1,14 +1,10 @@
 -- The search for the first row that answers.
-use Rattle.std.specs.Prelude.{◌≡◌, ℕ, ◌+◌, ◌<◌, Bool, true, false, cond, List, [], ◌∷◌, length, Some, None, Option}
+use Rattle.std.specs.Prelude.{◌≡◌, ℕ, ◌<◌, Bool, true, false, List, length, Some, None, Option, position}
 use Rattle.std.specs.List.{HoldsAt, AllWithin}
 
--- the index of the first row that answers, of rows that begin at index i
-abbrev pub first_from : {X : Type 0} → (X → Bool) → ℕ → List X → Option ℕ
-first_from answers i [] = None
-first_from answers i (row ∷ rows) = cond (answers row) (Some i) (first_from answers (i + 1) rows)
-
+-- the index of the first row that answers
 abbrev pub first_index : {X : Type 0} → (X → Bool) → List X → Option ℕ
-first_index answers rows = first_from answers 0 rows
+first_index answers rows = position answers rows
 
 -- the rule as a relation: none exactly if no row answers; else that row does, and none before it
 abbrev pub Finds : {X : Type 0} → (X → Bool) → List X → Option ℕ → Type 0

@@ -1,7 +1,7 @@
 // A list of banks that the checks have passed: it exists only by its constructor.
 pub mod checked;
 
-ghost use Rattle.std.specs.Prelude.{◌≡◌, ◌^◌, ◌<◌, ◌≤◌, false, take, is_some};
+ghost use Rattle.std.specs.Prelude.{◌≡◌, ◌^◌, ◌<◌, ◌≤◌, take, None};
 ghost use Rattle.memory.specs.Banks.{list_fault};
 
 use crate::banks::Bank;
@@ -13,6 +13,6 @@ pub struct BankList {
     count: usize,
     room: usize,
     ghost few: { count ≤ 8 },
-    ghost faultless: { is_some (list_fault (take count banks) room) ≡ false },
+    ghost faultless: { list_fault (take count banks) room ≡ None },
     ghost narrow: { room < 2 ^ 64 },
 }

@@ -7,25 +7,10 @@ ghost use Rattle.memory.specs.BankPlaces.{places_apart};
 ghost use Rattle.std.proofs.Common.{rules, arith};
 
 use crate::bank_list::BankList;
-use crate::banks::{Bank, bytes_of};
-use crate::layout::{Laid, Layout};
+use crate::banks::bytes_of;
+use crate::layout::{LINES, Laid, Layout};
 use crate::rows::find;
 use std::alloc::{AllocError, Global};
-
-// Where a line of the banks lies.
-fn place_in(banks: &[Bank], line: u64) -> Option<usize>
-    requires { total banks.now < 2 ^ 64 }
-    ensures { result ≡ bank_places banks.now line }
-{
-    if line >= 0xC000000 {
-        return None;
-    }
-    let address = line * 32;
-    let Some(i) = find(banks, address) else {
-        return None;
-    };
-    Some(bytes_of(&banks[0..i]) + (address - banks[i].base) as usize)
-}
 
 impl Layout for BankList {
     ghost place = { λ l. bank_places (banks_of l) };
@@ -35,19 +20,24 @@ impl Layout for BankList {
     ghost below = { Prim.search rules };
 
     fn place_of(&self, line: u64) -> Option<usize> {
-        place_in(self.as_slice(), line)
+        if line >= LINES {
+            return None;
+        }
+        let address = line * 32;
+        let banks = self.as_slice();
+        let i = find(banks, address)?;
+        Some(bytes_of(&banks[..i]) + (address - banks[i].base) as usize)
     }
 }
 
 pub type Banked = Laid<BankList>;
 
-impl Laid<BankList> {
+impl Banked {
     // The banks of a list, over as many zero bytes as it was made for.
     pub fn zeros(heap: Global, list: BankList) -> Result<Banked, AllocError>
         ensures { IfOk result (λ m. lines_laid (λ l. bank_places (banks_of l)) m ≡ banked (banks_of list) list.room (replicate list.room 0)) }
     {
-        let n = list.room();
-        Laid::over_zeros(heap, list, n)
+        Laid::over_zeros(heap, list, list.room())
     }
 }
 

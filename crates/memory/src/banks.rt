@@ -1,19 +1,20 @@
 // Banks of memory, and the checks of a list of them.
-ghost use Rattle.std.specs.Prelude.{◌≡◌, ◌+◌, ◌*◌, ◌^◌, ◌<◌, ◌≤◌, true, leb, [], ◌∷◌, length, if◌then◌else◌, Some, None, nat_le};
+ghost use Rattle.std.specs.Prelude.{◌≡◌, ◌+◌, ◌^◌, ◌<◌, [], ◌∷◌, nat_le};
+ghost use Rattle.std.specs.Result.{result_err};
 ghost use Rattle.memory.specs.Banks.{apart, bank_fault, clear, holds, list_cause, list_fault, size_fits, total};
 
 use crate::refusals::Refusal;
 use crate::rows::Row;
 
 // A bank holds the addresses from its base up to base + size.
-#[derive(Clone, Copy, Default)]
+#[derive(Clone, Copy, Debug, Default, PartialEq, Eq)]
 pub struct Bank {
     pub base: u64,
     pub size: u64,
 }
 
 // What is wrong with one bank of a list, in the order of the checks.
-#[derive(Clone, Copy, Debug, PartialEq)]
+#[derive(Clone, Copy, Debug, PartialEq, Eq)]
 pub enum BankFault {
     Size,
     Base,
@@ -22,7 +23,7 @@ pub enum BankFault {
 }
 
 // Why a list of banks is refused: its count, a bank by its index, or the total of the sizes.
-#[derive(Clone, Copy, Debug, PartialEq)]
+#[derive(Clone, Copy, Debug, PartialEq, Eq)]
 pub enum BankListRefusal {
     Count,
     Bank(usize, BankFault),
@@ -33,9 +34,7 @@ impl Refusal for BankListRefusal {
     ghost cause = { list_cause };
 
     fn number(&self) -> u8 {
-        match self {
-            BankListRefusal::Count | BankListRefusal::Bank(_, _) | BankListRefusal::Total => 16,
-        }
+        16
     }
 }
 
@@ -69,77 +68,65 @@ impl Bank {
     fn size_fits(&self) -> bool
         ensures { result ≡ size_fits self.now.size }
     {
-        self.size.is_power_of_two() && 0x2000 <= self.size && self.size <= 0x4000_0000
+        self.size.is_power_of_two() && (0x2000..=0x4000_0000).contains(&self.size)
     }
 
-    // Whether the bank ends where the other begins, or before. Their sums might not fit 64 bits.
-    fn ends_before(&self, other: &Bank) -> bool
-        ensures { result ≡ nat_le (self.now.base + self.now.size) other.now.base }
+    // Whether the bank ends at the address, or before it. An end that does not fit 64 bits is above every address.
+    fn ends_by(&self, address: u64) -> bool
+        ensures { result ≡ nat_le (self.now.base + self.now.size) address }
     {
-        self.base <= other.base && self.size <= other.base - self.base
+        self.base
+            .checked_add(self.size)
+            .is_some_and(|end| end <= address)
     }
 
     fn is_apart(&self, other: &Bank) -> bool
         ensures { result ≡ apart self.now other.now }
     {
-        self.ends_before(other) || other.ends_before(self)
+        self.ends_by(other.base) || other.ends_by(self.base)
     }
 
     fn is_clear_of(&self, before: &[Bank]) -> bool
         ensures { result ≡ clear before.now self.now }
     {
-        for other in before {
-            if !other.is_apart(self) {
-                return false;
-            }
-        }
-        true
+        before.iter().all(|other| other.is_apart(self))
     }
 
-    // What is wrong with the bank behind those before it.
-    fn fault_behind(&self, before: &[Bank]) -> Option<BankFault>
-        ensures { result ≡ bank_fault before.now self.now }
+    // Checks the bank behind those before it.
+    fn check_behind(&self, before: &[Bank]) -> Result<(), BankFault>
+        ensures { result_err result ≡ bank_fault before.now self.now }
     {
         if !self.size_fits() {
-            Some(BankFault::Size)
-        } else if self.base % self.size != 0 {
-            Some(BankFault::Base)
-        } else if self.base > END - self.size {
-            Some(BankFault::End)
-        } else if !self.is_clear_of(before) {
-            Some(BankFault::Overlap)
-        } else {
-            None
+            return Err(BankFault::Size);
         }
+        if !self.base.is_multiple_of(self.size) {
+            return Err(BankFault::Base);
+        }
+        if self.base > END - self.size {
+            return Err(BankFault::End);
+        }
+        if !self.is_clear_of(before) {
+            return Err(BankFault::Overlap);
+        }
+        Ok(())
     }
 }
 
-// What is wrong with a total of sizes for n bytes.
-fn total_fault(sum: usize, n: usize) -> Option<BankListRefusal>
-    ensures { result ≡ (if leb sum n then None else Some BankListRefusal.Total) }
+// Checks a list of banks for n bytes: the count, then each bank, then the total.
+pub(crate) fn check(banks: &[Bank], n: usize) -> Result<(), BankListRefusal>
+    ensures { result_err result ≡ list_fault banks.now n }
 {
-    if sum > n {
-        Some(BankListRefusal::Total)
-    } else {
-        None
+    if !(1..=MOST).contains(&banks.len()) {
+        return Err(BankListRefusal::Count);
     }
-}
-
-// What is wrong with a list of banks for n bytes.
-pub(crate) fn fault_of(banks: &[Bank], n: usize) -> Option<BankListRefusal>
-    ensures { result ≡ list_fault banks.now n }
-{
-    if banks.len() == 0 || banks.len() > MOST {
-        return Some(BankListRefusal::Count);
-    }
-    let mut sum = 0;
     for (i, bank) in banks.iter().enumerate() {
-        if let Some(fault) = bank.fault_behind(&banks[0..i]) {
-            return Some(BankListRefusal::Bank(i, fault));
-        }
-        sum += bank.size as usize;
+        bank.check_behind(&banks[..i])
+            .map_err(|fault| BankListRefusal::Bank(i, fault))?;
     }
-    total_fault(sum, n)
+    if bytes_of(banks) > n {
+        return Err(BankListRefusal::Total);
+    }
+    Ok(())
 }
 
 // The bytes of all the banks.
@@ -147,9 +134,5 @@ pub(crate) fn bytes_of(banks: &[Bank]) -> usize
     requires { total banks.now < 2 ^ 64 }
     ensures { result ≡ total banks.now }
 {
-    let mut sum = 0;
-    for bank in banks {
-        sum += bank.size as usize;
-    }
-    sum
+    banks.iter().map(|bank| bank.size as usize).sum()
 }

@@ -4,7 +4,7 @@ ghost use Rattle.memory.specs.Layers.{lines_laid};
 ghost use Rattle.memory.specs.Layouts.{flat, from_zero};
 ghost use Rattle.std.proofs.Common.{rules};
 
-use crate::layout::{Laid, Layout};
+use crate::layout::{LINES, Laid, Layout};
 use std::alloc::{AllocError, Global};
 
 // Line k begins at byte 32 k.
@@ -19,17 +19,13 @@ impl Layout for FromZero {
     ghost below = { Prim.search rules };
 
     fn place_of(&self, line: u64) -> Option<usize> {
-        if line < 0xC000000 {
-            Some(line as usize * 32)
-        } else {
-            None
-        }
+        (line < LINES).then(|| line as usize * 32)
     }
 }
 
 pub type Flat = Laid<FromZero>;
 
-impl Laid<FromZero> {
+impl Flat {
     // A flat memory of the given bytes.
     pub fn of_bytes(bytes: Vec<u8>) -> Flat
         ensures { lines_laid (λ _. from_zero) result ≡ flat (vec_len bytes) bytes.items }

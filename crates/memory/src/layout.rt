@@ -9,6 +9,9 @@ use crate::line::{fetch, put};
 use crate::{Memory, MemoryFault};
 use std::alloc::{AllocError, Global};
 
+// A memory has the lines below this number.
+pub(crate) const LINES: u64 = 0xC000000;
+
 // Where the lines lie: no two share a byte, and lines from C000000h up lie nowhere.
 pub trait Layout {
     ghost place: { Self → Places };
@@ -48,15 +51,9 @@ impl<L: Layout> Laid<L> {
     fn offset_of(&self, line: u64) -> Option<usize>
         ensures { result ≡ inside (vec_len self.now.bytes) (L.Layout.place self.now.layout line) }
     {
-        let Some(at) = self.layout.place_of(line) else {
-            return None;
-        };
-        let n = self.bytes.len();
-        if 32 <= n && at <= n - 32 {
-            Some(at)
-        } else {
-            None
-        }
+        let at = self.layout.place_of(line)?;
+        let last = self.bytes.len().checked_sub(32)?;
+        (at <= last).then_some(at)
     }
 }
 
@@ -72,18 +69,14 @@ impl<L: Layout> Memory for Laid<L> {
     }
 
     fn read(&self, line: u64, place: &mut [u8; 32]) -> Result<(), MemoryFault> {
-        let Some(at) = self.offset_of(line) else {
-            return Err(MemoryFault::Absent(line));
-        };
-        fetch(self.bytes.as_slice(), at, place);
+        let at = self.offset_of(line).ok_or(MemoryFault::Absent(line))?;
+        fetch(&self.bytes, at, place);
         Ok(())
     }
 
     fn write(&mut self, line: u64, bytes: &[u8; 32], mask: u32) -> Result<(), MemoryFault> {
-        let Some(at) = self.offset_of(line) else {
-            return Err(MemoryFault::Absent(line));
-        };
-        put(self.bytes.as_mut_slice(), at, bytes, mask);
+        let at = self.offset_of(line).ok_or(MemoryFault::Absent(line))?;
+        put(&mut self.bytes, at, bytes, mask);
         Ok(())
     }
 }

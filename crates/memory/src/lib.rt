@@ -15,7 +15,7 @@ ghost use Rattle.std.specs.Prelude.{◌≡◌, ℕ};
 ghost use Rattle.memory.specs.Content.{Bounded, Lines, Whole, is_present, read_answer, read_place, write_answer, written};
 
 // Why a memory refuses a line, with the line's number.
-#[derive(Clone, Copy, Debug, PartialEq)]
+#[derive(Clone, Copy, Debug, PartialEq, Eq)]
 pub enum MemoryFault {
     Absent(u64),
     Spoiled(u64),

@@ -11,9 +11,9 @@ fn merge(line: &mut [u8], new: &[u8; 32], mask: u32)
     if mask == u32::MAX {
         line.copy_from_slice(new);
     } else {
-        for i in 0..32 {
-            if (mask >> i) % 2 == 1 {
-                line[i] = new[i];
+        for (i, byte) in line.iter_mut().enumerate() {
+            if (mask >> i) & 1 == 1 {
+                *byte = new[i];
             }
         }
     }

@@ -1,12 +1,15 @@
 // A layer of marked lines over any memory.
 pub mod layer;
 
-ghost use Rattle.std.specs.Prelude.{◌≡◌, ◌≤◌, true, vec_len, vec_capacity, ◌==◌};
-ghost use Rattle.memory.specs.Marked.{distinct, mark_cause, marked, without};
+ghost use Rattle.std.specs.Prelude.{◌≤◌, vec_len, vec_capacity, ◌==◌};
+ghost use Rattle.memory.specs.Marked.{Distinct, mark_cause};
 
 use crate::Memory;
 use crate::refusals::Refusal;
-use crate::rows::{Row, find};
+use crate::rows::Row;
+
+// At most this many lines are marked.
+const MOST: usize = 32;
 
 // The number of a marked line.
 #[derive(Clone, Copy)]
@@ -23,7 +26,7 @@ impl Row for Mark {
 }
 
 // Why a line is not marked: it is absent, or 32 others are marked.
-#[derive(Clone, Copy, Debug, PartialEq)]
+#[derive(Clone, Copy, Debug, PartialEq, Eq)]
 pub enum MarkRefusal {
     Absent,
     Full,
@@ -48,23 +51,5 @@ pub struct Marks<M: Memory> {
     marks: Vec<Mark>,
     ghost room: { 32 ≤ vec_capacity marks },
     ghost few: { vec_len marks ≤ 32 },
-    ghost apart: { distinct marks.items ≡ true },
-}
-
-fn is_marked(marks: &[Mark], line: u64) -> bool
-    ensures { result ≡ marked marks.now line }
-{
-    find(marks, line).is_some()
-}
-
-fn unmark(marks: &mut Vec<Mark>, line: u64)
-    requires { distinct marks.old.items ≡ true }
-    ensures len { vec_len marks.new ≤ vec_len marks.old }
-    ensures capacity { vec_capacity marks.new ≡ vec_capacity marks.old }
-    ensures apart { distinct marks.new.items ≡ true }
-    ensures items { marks.new.items ≡ without marks.old.items line }
-{
-    if let Some(i) = find(marks.as_slice(), line) {
-        let _ = marks.remove(i);
-    }
+    ghost apart: { Distinct marks.items },
 }

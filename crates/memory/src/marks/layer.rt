@@ -3,10 +3,11 @@ ghost use Rattle.std.specs.Prelude.{◌≡◌, [], IfOk};
 ghost use Rattle.memory.specs.Answers.{answered, no_values};
 ghost use Rattle.memory.specs.Content.{write_answer, written};
 ghost use Rattle.memory.specs.Layers.{lines_under, marks_of};
-ghost use Rattle.memory.specs.Marked.{lines_marked, mark_answer, mark_cause, marks_written, with_mark};
+ghost use Rattle.memory.specs.Marked.{lines_marked, mark_answer, mark_cause, marked, marks_written, with_mark, without};
 ghost use Rattle.std.proofs.Common.{rules, arith};
 
-use crate::marks::{Mark, MarkRefusal, Marks, is_marked, unmark};
+use crate::marks::{MOST, Mark, MarkRefusal, Marks};
+use crate::rows::find;
 use crate::{Memory, MemoryFault};
 use std::alloc::{AllocError, Global};
 
@@ -18,8 +19,24 @@ impl<M: Memory> Marks<M> {
         ensures unmarked { IfOk result (λ m. (marks_of m ≡ []) × (m.below ≡ below)) }
         ensures content { IfOk result (λ m. lines_under M.Memory.content m ≡ M.Memory.content below) }
     {
-        let marks = Vec::with_capacity(heap, 32)?;
+        let marks = Vec::with_capacity(heap, MOST)?;
         Ok(Marks { below, marks })
+    }
+
+    fn is_marked(&self, line: u64) -> bool
+        ensures { result ≡ marked (marks_of self.now) line }
+    {
+        find(&self.marks, line).is_some()
+    }
+
+    // Removes the mark of a line, if it has one.
+    fn unmark(&mut self, line: u64)
+        ensures below { self.new.below ≡ self.old.below }
+        ensures marks { marks_of self.new ≡ without (marks_of self.old) line }
+    {
+        if let Some(i) = find(&self.marks, line) {
+            self.marks.remove(i);
+        }
     }
 
     // Marks a line that is there. A marked line again adds nothing, and a 33rd is refused.
@@ -32,10 +49,10 @@ impl<M: Memory> Marks<M> {
         if !self.below.present(line) {
             return Err(MarkRefusal::Absent);
         }
-        if is_marked(self.marks.as_slice(), line) {
+        if self.is_marked(line) {
             return Ok(());
         }
-        if self.marks.len() >= 32 {
+        if self.marks.len() >= MOST {
             return Err(MarkRefusal::Full);
         }
         self.marks.push_reserved(Mark { line });
@@ -55,7 +72,7 @@ impl<M: Memory> Memory for Marks<M> {
     }
 
     fn read(&self, line: u64, place: &mut [u8; 32]) -> Result<(), MemoryFault> {
-        if is_marked(self.marks.as_slice(), line) && self.below.present(line) {
+        if self.is_marked(line) && self.below.present(line) {
             return Err(MemoryFault::Spoiled(line));
         }
         self.below.read(line, place)
@@ -70,7 +87,7 @@ impl<M: Memory> Memory for Marks<M> {
     {
         self.below.write(line, bytes, mask)?;
         if mask == u32::MAX {
-            unmark(&mut self.marks, line);
+            self.unmark(line);
         }
         Ok(())
     }

@@ -1,10 +1,13 @@
-use Rattle.std.proofs.Common.{take, ap, arith}
-use Rattle.memory.specs.Banks.{total}
-use Rattle.memory.specs.BankRules.{admitted}
+use Rattle.std.proofs.Common.{Some, None, sym, ◌∙◌, arith}
+use Rattle.memory.specs.BankPlaces.{places_by}
 use Rattle.memory.proofs.banked.BankListLayout.place_of.Goals as goal
 
-pub place_in-requires : goal.place_in-requires
-place_in-requires c =
-    let l = c.args.self.now in
-    let held = ap total c.as_slice.ensures in
-    omega (arith, (admitted (take l.count l.banks) l.room l.faultless).room, l.narrow)
+pub returns-in_err-i : goal.returns-in_err-i
+returns-in_err-i c =
+    rw (← c.as_slice-banks.ensures)
+    (c.from_residual.ensures ∙ sym (places_by _ c.args.line None (omega arith) c.in_err-i.ensures))
+
+pub returns : goal.returns
+returns c =
+    rw (c.bytes_of.ensures, ← c.as_slice-banks.ensures)
+    (sym (places_by _ c.args.line (Some c.in_ok-i.i) (omega arith) c.in_ok-i.ensures))
