@@ -10,15 +10,15 @@ use Rattle.bridge.specs.declared.faults.BurstFault.{BurstFault}
 use Rattle.bridge.specs.declared.faults.BurstFault.TheVariants.{Target, Walk}
 use Rattle.bridge.specs.declared.faults.WalkFault.TheVariants.{Memory, NotValid}
 use Rattle.bridge.specs.Faults.{fault_number}
-use Rattle.bridge.specs.Bursts.{Burst, Job, Piece, burst_start, card_read, card_write, cut, failed_check, in_line, is_unclaimed, misaligned, out_of_bounds, pieces, reading, writing}
-use Rattle.bridge.specs.Calls.{Outcome, burst_outcome, card, performed}
+use Rattle.bridge.specs.Bursts.{Burst, Job, Piece, burst_start, card_read, card_write, cut, failed_check, in_line, is_unclaimed, misaligned, out_of_bounds, reading, writing}
+use Rattle.bridge.specs.Calls.{burst_outcome, card, performed}
 use Rattle.bridge_laws.specs.Cuts.{InOneLine}
 use Rattle.bridge.specs.Pieces.{PieceReply, no_window, read_ended, words_dismissed, words_moved, words_stored}
 use Rattle.bridge_laws.specs.Reads.{ReadEndsWith, at_fault, at_no_window, complete, serving}
 use Rattle.bridge_laws.proofs.BoundsFacts.{alignment, bounds}
-use Rattle.bridge_laws.specs.Refusals.{ChecksLaw, Refusals, RefusedExactly, SomeBefore4}
+use Rattle.bridge_laws.specs.Refusals.{ChecksLaw, Refusals}
 use Rattle.bridge.specs.declared.bursts.WriteCounts.{WriteCounts}
-use Rattle.bridge.specs.Runs.{burst_answer, lent_buffer, answer_of_read, run, answer_of_write}
+use Rattle.bridge.specs.Runs.{burst_answer, answer_of_read, answer_of_write}
 use Rattle.bridge.specs.State.{State}
 use Rattle.bridge_laws.specs.Translated.{Translated, by_entry, by_none, by_plain_window, by_row, not_valid, table_absent, table_spoiled}
 use Rattle.bridge.specs.Translation.{Located, Place, place_of, table_fault, target, unclaimed}

@@ -9,12 +9,11 @@ use Rattle.bridge.specs.declared.log.Direction.TheVariants.{Write}
 use Rattle.bridge.specs.declared.look_aside.LookAside.{LookAside}
 use Rattle.bridge.specs.Bursts.{Burst, Piece, card_write, cut, in_line, pieces, wide_enable, writing, wrong_count}
 use Rattle.bridge.specs.Calls.{burst_outcome}
-use Rattle.bridge.specs.Longwords.{line_bytes, line_mask}
-use Rattle.bridge.specs.Pieces.{PieceOutcome, PieceReply, after_piece, no_window, outcome_at_content, outcome_at_place, outcome_faulted, outcome_written, piece_outcome, words_dismissed, words_stored}
+use Rattle.bridge.specs.Pieces.{PieceOutcome, PieceReply, after_piece, no_window, outcome_at_content, outcome_at_place, outcome_written, piece_outcome, words_dismissed, words_stored}
 use Rattle.bridge.specs.declared.faults.BurstFault.{BurstFault}
 use Rattle.bridge_laws.specs.Reads.{FaultAt, at_absent, at_table}
 use Rattle.bridge.specs.declared.bursts.WriteCounts.{WriteCounts}
-use Rattle.bridge.specs.Runs.{Run, count_values, counted, ends, met_no_window, run, run_piece, run_unless, answer_of_write}
+use Rattle.bridge.specs.Runs.{Run, counted, ends, met_no_window, run, run_piece, run_unless, answer_of_write}
 use Rattle.bridge.specs.State.{State}
 use Rattle.bridge.specs.Translation.{Place, place_of, table_fault, target, unclaimed}
 use Rattle.bridge_laws.specs.Writes.{LineAfter, LineServed, Stored, WriteEndsWith, WriteLaw, Writes, at_no_window, before_piece, complete, nth_piece, was_dismissed, was_stored}
