@@ -5,6 +5,7 @@ use Rattle.std.proofs.lemmas.List.{append_assoc, append-nil, drop-drop, length-d
 use Rattle.std.proofs.lemmas.Slice.{take-put_mid, drop-put_mid}
 use Rattle.std.proofs.lemmas.Bool.{cond-false, cond-true, ne_eqb}
 use Rattle.std.specs.List.{AllByRecursion}
+use Rattle.std.specs.Result.{IsErrAnd, MatchResult, OnErr}
 use Rattle.memory.specs.Answers.{Answer, refusal}
 use Rattle.bridge.specs.declared.bursts.BurstRefusal.{BurstRefusal}
 use Rattle.bridge.specs.declared.bursts.BurstRefusal.TheVariants.{Ended, Unclaimed}
@@ -136,6 +137,24 @@ module _ (s₀ : State) (pci count : ℕ) (b₀ : List ℕ) (s : State) (b : Lis
         (ended _ (read_ended (pci + 4 * moved) fault) (λ m. refusal (fault_number fault) (m ∷ (pci + 4 * moved) ∷ fault_line fault ∷ [])) (Err (Ended (Fault moved (pci + 4 * moved) fault))) refl (λ m. refl) refl
         (first_held s₀ pci count reading s moved i.replies i.progress number mapped held)
         (stop s₀ pci count reading s moved i.replies i.progress n some near number mapped held _ (at_n (Err fault) h) refl)))
+
+    -- the same for the answer that the loop makes of the piece's
+    abbrev pub AnswerOf : Result Unit BurstFault → Result Unit (BurstRefusal ReadEnd) → Type 0
+    AnswerOf r y = MatchResult r (λ done. y ≡ Ok done) (λ fault. IsErrAnd y (λ x. x ≡ Ended (Fault moved (pci + 4 * moved) fault)))
+
+    pub answer_goes_on : (r : Result Unit BurstFault) (y : Result Unit (BurstRefusal ReadEnd)) → AnswerOf r y → y ≡ Ok tt → served r → length words ≡ length (part moved n b)
+        → Reading s₀ pci count b₀ t (put_mid moved (moved + n - moved) b words) (moved + n)
+    answer_goes_on (Ok done) y a e h w = go_on h w
+    answer_goes_on (Err fault) (Ok done) a e h w = absurd a
+    answer_goes_on (Err fault) (Err x) a e h w = absurd (let z : ◌≡◌ {A = ℕ} 0 1 = cc in omega arith)
+
+    pub answer_ends : (r : Result Unit BurstFault) (y : Result Unit (BurstRefusal ReadEnd)) → AnswerOf r y → (x : BurstRefusal ReadEnd) → y ≡ Err x → served r → OnErr r (words ≡ part moved n b)
+        → goal t (put_mid moved (moved + n - moved) b words) (Err x)
+    answer_ends (Ok done) y a x e h w = absurd (let z : ◌≡◌ {A = ℕ} 0 1 = cc in omega arith)
+    answer_ends (Err fault) (Ok done) a x e h w = absurd a
+    answer_ends (Err fault) (Err z) a x e h w =
+        let same : x ≡ Ended (Fault moved (pci + 4 * moved) fault) = let f : z ≡ x = cc in sym f ∙ a in
+        subst (λ k. goal t (put_mid moved (moved + n - moved) b words) (Err k)) (sym same) (faulted fault h w)
 
   pub complete : 0 < count → count ≤ moved → goal s b (Ok tt)
   complete some h =

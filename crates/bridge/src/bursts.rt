@@ -29,7 +29,7 @@ pub enum ReadEnd {
 }
 
 // Longwords taken, lines stored, lines dismissed.
-#[derive(Clone, Copy, Debug, PartialEq)]
+#[derive(Clone, Copy, Debug, Default, PartialEq)]
 pub struct WriteCounts {
     pub taken: usize,
     pub stored: usize,
@@ -82,8 +82,7 @@ impl<E: Refusal> Refusal for BurstRefusal<E> {
 pub(crate) fn count_is_wrong(pci: u32, count: usize, words: &[u32]) -> bool
     ensures { result ≡ wrong_count pci count words.now }
 {
-    count == 0
-        || count > 64
+    !(1..=64).contains(&count)
         || count > words.len()
         || u64::from(pci) + 4 * count as u64 > 0x1_0000_0000
 }

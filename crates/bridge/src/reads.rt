@@ -84,9 +84,8 @@ impl<M: Memory> Bridge<M> {
                 mapped,
                 pci,
             };
-            if let Err(fault) = self.read_piece(claimed, &mut buffer[moved..moved + n]) {
-                return Err(BurstRefusal::Ended(ReadEnd::Fault { moved, pci, fault }));
-            }
+            self.read_piece(claimed, &mut buffer[moved..moved + n])
+                .map_err(|fault| BurstRefusal::Ended(ReadEnd::Fault { moved, pci, fault }))?;
             moved += n;
         }
         Ok(())

@@ -107,11 +107,7 @@ impl<M: Memory> Bridge<M> {
         requires narrow { wide_enable (take count enables.now) ≡ false }
         ensures { write_outcome (state_of M.Memory.content self.new) result ≡ burst_outcome (state_of M.Memory.content self.old) (card_write pci count words.now enables.now) (third_check self.old.registers pci) }
     {
-        let mut counts = WriteCounts {
-            taken: 0,
-            stored: 0,
-            dismissed: 0,
-        };
+        let mut counts = WriteCounts::default();
         while counts.takes_more(count) {
             let first = counts.taken;
             let pci = pci + 4 * first as u32;

@@ -1,12 +1,15 @@
-use Rattle.std.proofs.Common.{sym, ap, ◌∙◌, arith}
+use Rattle.std.proofs.Common.{◌≡◌, sym, ap, ◌∙◌, arith, rules}
 use Rattle.std.proofs.lemmas.List.{length-drop, length-take}
 use Rattle.std.proofs.lemmas.Bool.{ltb-false, ltb-true}
+use Rattle.bridge.specs.declared.bursts.WriteCounts.{WriteCounts}
 use Rattle.bridge.specs.BurstAnswers.{tallied}
 use Rattle.bridge.proofs.WriteBursts.{begin, complete, go_on, no_window_next, wide_part}
 use Rattle.bridge.proofs.Bridge.write_burst.Goals as goal
 
 pub loop-first-init : goal.loop-first-init
-loop-first-init g c = begin _ _ _ _ _
+loop-first-init g c =
+    let none : ◌≡◌ {A = WriteCounts} c.default-counts.result (record { taken = 0; stored = 0; dismissed = 0 }) = search rules in
+    rw none (begin _ _ _ _ _)
 
 pub returns-in_default : goal.returns-in_default
 returns-in_default g c = no_window_next _ _ _ _ _ _ _ c.loop-first.invariant (ltb-true _ _ (sym c.takes_more.ensures ∙ c.loop-first-test.true)) (sym c.in_default.ensures) _ c.no_window.ensures
