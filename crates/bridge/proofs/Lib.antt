@@ -1,3 +1,4 @@
+pub mod BitFields
 pub mod RowTables
 pub mod LaneFacts
 pub mod LineBytes

@@ -1,5 +1,6 @@
 -- The fault log.
-use Rattle.std.specs.Prelude.{ℕ, true, false, List, [], ◌∷◌, Some, None, Option}
+use Rattle.std.specs.Prelude.{ℕ, true, false, List, [], ◌∷◌, Some, None, Ok, Err, Option, Result}
+use Rattle.bridge.specs.declared.faults.BurstFault.{BurstFault}
 use Rattle.bridge.specs.declared.log.Direction.{Direction}
 use Rattle.bridge.specs.declared.log.Direction.TheVariants.{Read, Write}
 use Rattle.bridge.specs.declared.log.FaultRecord.{FaultRecord}
@@ -18,6 +19,11 @@ logged_after (Some r) fault = record { first = r.first; missed = true }
 
 abbrev pub logged : FaultLog → FaultRecord → FaultLog
 logged log fault = record { reading = Some (logged_after log.reading fault) }
+
+-- a fault goes into the log, with what the card asked for and the PCI address of the burst's first longword in the line
+abbrev pub log_served : FaultLog → Direction → ℕ → Result Unit BurstFault → FaultLog
+log_served log direction pci (Ok done) = log
+log_served log direction pci (Err fault) = logged log (record { fault = fault; direction = direction; pci = pci })
 
 -- 0 for a read, 1 for a write
 abbrev pub direction_number : Direction → ℕ

@@ -27,18 +27,20 @@ target_base w = w.translated * 2
 abbrev pub mixed : ℕ → ℕ → ℕ → ℕ
 mixed mask a b = bit_or (bit_and a mask) (bit_and b (0xfff - mask))
 
+-- the base of a window with twelve of its bits, from `low` up, taken from the PCI address's bits 31:20 where their mask bit is 1,
+-- and other bits below `low`
+abbrev pub window_address : Window → ℕ → ℕ → ℕ → ℕ
+window_address w low pci below =
+    bits_kept 32 (low + 12) (target_base w)
+    + mixed (bits 31 20 w.mask) (bits 31 20 pci) (bits (low + 11) low (target_base w)) * 2 ^ low
+    + below
+
 -- a plain window keeps bits 19:0; each bit 31:20 comes from the PCI address where its mask bit is 1, else from T; bit 32
 -- comes from T
 abbrev pub plain_address : Window → ℕ → ℕ
-plain_address w pci =
-    bits_kept 32 32 (target_base w)
-    + mixed (bits 31 20 w.mask) (bits 31 20 pci) (bits 31 20 (target_base w)) * 2 ^ 20
-    + bits 19 0 pci
+plain_address w pci = window_address w 20 pci (bits 19 0 pci)
 
 -- where the table of a mapped window has the entry of a PCI address: T in bits 32:22; bit j from 10 to 21 is PCI bit j + 10
 -- where that mask bit is 1, else T's bit j; PCI bits 19:13 in bits 9:3; zeros in bits 2:0
 abbrev pub entry_address : Window → ℕ → ℕ
-entry_address w pci =
-    bits_kept 32 22 (target_base w)
-    + mixed (bits 31 20 w.mask) (bits 31 20 pci) (bits 21 10 (target_base w)) * 2 ^ 10
-    + bits 19 13 pci * 2 ^ 3
+entry_address w pci = window_address w 10 pci (bits 19 13 pci * 2 ^ 3)

@@ -2,7 +2,7 @@
 ghost use Rattle.std.specs.Prelude.{◌≡◌, []};
 ghost use Rattle.memory.specs.Answers.{success};
 ghost use Rattle.bridge.specs.Calls.{log_clear, log_read, performed, processor};
-ghost use Rattle.bridge.specs.Log.{empty_log, logged, reading_values};
+ghost use Rattle.bridge.specs.Log.{empty_log, log_served, logged, reading_values};
 ghost use Rattle.bridge.specs.State.{state_of};
 
 use crate::Bridge;
@@ -45,12 +45,30 @@ impl FaultLog {
     }
 
     // Takes a fault where the log is empty; a filled log keeps its first, and says that it missed others.
-    pub(crate) fn note(&mut self, fault: FaultRecord)
+    fn note(&mut self, fault: FaultRecord)
         ensures { self.new ≡ logged self.old fault }
     {
         let missed = self.reading.is_some();
         let first = self.reading.map_or(fault, |reading| reading.first);
         self.reading = Some(LogReading { first, missed });
+    }
+
+    // Takes the fault of a piece, where it met one.
+    pub(crate) fn note_served(
+        &mut self,
+        direction: Direction,
+        pci: u32,
+        served: Result<(), BurstFault>,
+    )
+        ensures { self.new ≡ log_served self.old direction pci served }
+    {
+        if let Err(fault) = served {
+            self.note(FaultRecord {
+                fault,
+                direction,
+                pci,
+            });
+        }
     }
 }
 

@@ -12,7 +12,7 @@ use crate::Bridge;
 use crate::bursts::{BurstRefusal, ReadEnd, ReadRefusal, count_is_wrong, in_line, no_window};
 use crate::faults::BurstFault;
 use crate::line::{BLANK, longword};
-use crate::log::{Direction, FaultRecord};
+use crate::log::Direction;
 use crate::walk::Claimed;
 use memory::Memory;
 
@@ -53,13 +53,7 @@ impl<M: Memory> Bridge<M> {
         ensures after { state_of M.Memory.content self.new ≡ after_piece (state_of M.Memory.content self.old) (outcome_by_read self.new.look_aside self.old.log (piece_to_read claimed.pci words.old) words.new result) }
     {
         let served = self.read_line(claimed, words);
-        if let Err(fault) = served {
-            self.log.note(FaultRecord {
-                fault,
-                direction: Direction::Read,
-                pci: claimed.pci,
-            });
-        }
+        self.log.note_served(Direction::Read, claimed.pci, served);
         served
     }
 

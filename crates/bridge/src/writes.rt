@@ -15,7 +15,7 @@ use crate::bursts::{
 use crate::enables::{ByteEnables, any_is_wide};
 use crate::faults::BurstFault;
 use crate::line::BLANK;
-use crate::log::{Direction, FaultRecord};
+use crate::log::Direction;
 use crate::walk::Claimed;
 use memory::Memory;
 
@@ -80,13 +80,7 @@ impl<M: Memory> Bridge<M> {
         ensures after { state_of M.Memory.content self.new ≡ after_piece (state_of M.Memory.content self.old) (outcome_claimed (state_of M.Memory.content self.old) (piece_to_write claimed.pci words.now enables.now.numbers.now) claimed.number claimed.mapped) }
     {
         let served = self.write_line(claimed, words, enables);
-        if let Err(fault) = served {
-            self.log.note(FaultRecord {
-                fault,
-                direction: Direction::Write,
-                pci: claimed.pci,
-            });
-        }
+        self.log.note_served(Direction::Write, claimed.pci, served);
         served
     }
 

@@ -2,7 +2,7 @@
 ghost use Rattle.std.specs.Prelude.{◌≡◌, ◌≤◌};
 ghost use Rattle.bridge.specs.Bits.{bits};
 ghost use Rattle.bridge.specs.Registers.{window};
-ghost use Rattle.bridge.specs.Windows.{claim, enabled, entry_address, holds, mapped, mixed, plain_address};
+ghost use Rattle.bridge.specs.Windows.{claim, enabled, entry_address, holds, mapped, mixed, plain_address, window_address};
 
 use super::{Registers, Window};
 
@@ -43,26 +43,29 @@ impl Window {
         self.enabled() && (top(pci) ^ top(self.base)) & (0xfff - top(self.mask)) == 0
     }
 
+    // T with twelve of its bits, from `low` up, mixed with the PCI address's bits 31:20, and other bits below them.
+    fn address(&self, low: u32, pci: u32, below: u32) -> u64
+        requires { low ≤ 20 }
+        ensures { result ≡ window_address self.now low pci below }
+    {
+        let base = u64::from(self.translated) * 2;
+        let high = (base >> (low + 12)) << (low + 12);
+        let middle = mixed(top(self.mask), top(pci), ((base >> low) % 0x1000) as u32);
+        high + (u64::from(middle) << low) + u64::from(below)
+    }
+
     // Where a plain window leads.
     pub(crate) fn plain_address(&self, pci: u32) -> u64
         ensures { result ≡ plain_address self.now pci }
     {
-        let base = u64::from(self.translated) * 2;
-        let middle = mixed(top(self.mask), top(pci), ((base >> 20) % 0x1000) as u32);
-        (base >> 32) % 2 * 0x1_0000_0000
-            + u64::from(middle) * 0x10_0000
-            + u64::from(pci % 0x10_0000)
+        self.address(20, pci, pci % 0x10_0000)
     }
 
     // Where the table of a mapped window has the entry of an address.
     pub(crate) fn entry_address(&self, pci: u32) -> u64
         ensures { result ≡ entry_address self.now pci }
     {
-        let base = u64::from(self.translated) * 2;
-        let middle = mixed(top(self.mask), top(pci), ((base >> 10) % 0x1000) as u32);
-        (base >> 22) % 0x800 * 0x40_0000
-            + u64::from(middle) * 0x400
-            + u64::from((pci >> 13) % 0x80) * 8
+        self.address(10, pci, (pci >> 13) % 0x80 * 8)
     }
 }
 
