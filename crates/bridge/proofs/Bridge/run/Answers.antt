@@ -5,5 +5,3 @@ use Rattle.bridge.proofs.Bridge.run.Goals as goal
 pub loop-step-preserved : goal.loop-step-preserved
 loop-step-preserved g c = go_on _ _ (state_of g.M.Memory.content c.perform_step.new.self) _ _ _ c.step-item.result c.perform_step.new.step c.loop-step.invariant c.loop-step-test.true c.loop-step.auto.steps c.perform_step.ensures.answer c.perform_step.ensures.call c.perform_step.ensures.after
 
-pub returns : goal.returns
-returns g c = let done = finish _ _ _ _ _ c.loop-step.invariant c.loop-step-test.false c.loop-step.auto.steps in record { steps = done.0; after = done.1 }
