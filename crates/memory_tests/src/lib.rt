@@ -105,9 +105,7 @@ mod tests {
 
     #[test]
     fn the_last_line_is_bffffff(rt: HostRuntime) -> Result<(), Fail> {
-        let Ok(list) = BankList::new(&[bank(0x1_7fff_e000, 0x2000)], 0x2000) else {
-            return Err(Fail::new("refused"));
-        };
+        let list = BankList::new(&[bank(0x1_7fff_e000, 0x2000)], 0x2000)?;
         let mut m = Banked::zeros(rt.alloc(), list)?;
         assert!(rt; !m.present(0xbff_feff));
         assert!(rt; m.present(0xbff_ff00));
@@ -122,9 +120,7 @@ mod tests {
     #[test]
     fn banks_lie_one_behind_the_other(rt: HostRuntime) -> Result<(), Fail> {
         let banks = [bank(0x8000, 0x4000), bank(0, 0x2000), bank(0x4000, 0x2000)];
-        let Ok(list) = BankList::new(&banks, 0x8000) else {
-            return Err(Fail::new("refused"));
-        };
+        let list = BankList::new(&banks, 0x8000)?;
         let mut m = Banked::zeros(rt.alloc(), list)?;
         assert!(rt; m.present(0xff));
         assert!(rt; !m.present(0x100));
