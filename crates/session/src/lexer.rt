@@ -2,9 +2,10 @@
 ghost use Rattle.std.specs.Prelude.{◌≡◌, ◌+◌, ◌<◌, ◌≤◌, length, take, drop};
 ghost use Rattle.session.specs.Steps.{Cuts, Starts, Taken, WordEnds};
 ghost use Rattle.session.specs.Tokens.{WordBytes, is_opening, lexeme, word_byte};
-ghost use Rattle.session.specs.declared.lexer.LineError.TheVariants.{NoMemory};
+ghost use Rattle.session.specs.declared.lexer.LineError.TheVariants.{Malformed, NoMemory};
 
 use std::alloc::{AllocFailed, Global};
+use std::num::TryFromIntError;
 
 // A parenthesis or a word, with the offset of its first byte.
 #[derive(Clone, Copy)]
@@ -26,6 +27,15 @@ impl<T: Drop> From<AllocFailed<T>> for LineError {
 
     fn from(_: AllocFailed<T>) -> LineError {
         LineError::NoMemory
+    }
+}
+
+// The number of a word is too large for its type.
+impl From<TryFromIntError> for LineError {
+    ghost from_gives = { λ _ e. e ≡ Malformed };
+
+    fn from(_: TryFromIntError) -> Self {
+        Self::Malformed
     }
 }
 
