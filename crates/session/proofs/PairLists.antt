@@ -50,13 +50,13 @@ pairs_fail whole rest out h end none ps l = stop (h.back ps l).0 (h.back ps l).2
     stop (q ∷ qs) k = none q k.0 k.1
 
 -- a pair comes next, so its words are numbers wherever the whole is pairs
-pub pairs_numbers : (whole rest : List Lexeme) (out : List Pair) (a b : List ℕ) (us : List Lexeme) → PairsSoFar whole rest out → rest ≡ opening ∷ word_of a ∷ word_of b ∷ closing ∷ us → (ps : List (ℕ × ℕ)) → Pairs whole ps → (p : ℕ × ℕ) × Reads 32 a p.0 × Reads 64 b p.1
+pub pairs_numbers : (whole rest : List Lexeme) (out : List Pair) (a b : List ℕ) (us : List Lexeme) → PairsSoFar whole rest out → rest ≡ opening ∷ word_of a ∷ word_of b ∷ closing ∷ us → (ps : List (ℕ × ℕ)) → Pairs whole ps → (p : ℕ × ℕ) × (Reads 32 a p.0 × Reads 64 b p.1)
 pairs_numbers whole rest out a b us h is ps l = next (h.back ps l).0 (h.back ps l).2
   where
-    next : (qs : List (ℕ × ℕ)) → Pairs rest qs → (p : ℕ × ℕ) × Reads 32 a p.0 × Reads 64 b p.1
+    next : (qs : List (ℕ × ℕ)) → Pairs rest qs → (p : ℕ × ℕ) × (Reads 32 a p.0 × Reads 64 b p.1)
     next [] k = absurd (let z = sym k ∙ is in let o : ◌≡◌ {A = ℕ} 0 1 = cc in omega arith)
     next (q ∷ qs) (vs, k, l) =
         let e = sym k.2 ∙ is in
         let ea : k.0 ≡ a = cc in
         let eb : k.1 ≡ b = cc in
-        (q, subst (λ w. Reads 32 w q.0) ea k.3, subst (λ w. Reads 64 w q.1) eb k.4)
+        (q, (subst (λ w. Reads 32 w q.0) ea k.3, subst (λ w. Reads 64 w q.1) eb k.4))

@@ -55,19 +55,22 @@ abbrev pub CutAtEnds : Type 0
 CutAtEnds = (input : List ℕ) → (lines : List (List ℕ)) × LinesOf input lines × (lines_from (kept []) input ≡ map cut_of lines)
 
 -- the code's values by these
-abbrev pub line_given : Result (Vec ℕ Global) TooLong → Cut
+abbrev InputLine : Type 0
+InputLine = Result (Vec ℕ Global) TooLong
+
+abbrev pub line_given : InputLine → Cut
 line_given (Ok bytes) = kept (vec_items bytes)
 line_given (Err e) = too_long
 
 abbrev pub held : LineCutter → Cut
 held c = line_given c.line
 
-abbrev pub option_given : Option (Result (Vec ℕ Global) TooLong) → Option Cut
+abbrev pub option_given : Option InputLine → Option Cut
 option_given None = None
 option_given (Some line) = Some (line_given line)
 
-abbrev pub lines_given : Option (Result (Vec ℕ Global) TooLong) → List Cut
+abbrev pub lines_given : Option InputLine → List Cut
 lines_given line = ended_lines (option_given line)
 
-abbrev pub given : Cut → Option (Result (Vec ℕ Global) TooLong) → Step
+abbrev pub given : Cut → Option InputLine → Step
 given c line = record { held = c; ended = option_given line }

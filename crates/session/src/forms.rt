@@ -5,6 +5,7 @@ ghost use Rattle.session.specs.Forms.{ArgsParsed, Ends, Means, Named, Once, One,
 ghost use Rattle.session.specs.Hex.{Reads};
 ghost use Rattle.session.specs.Tokens.{lexemes};
 
+use crate::lexer::Token::{Close, Open, Word};
 use crate::lexer::{LineError, Token, tokens};
 use crate::numbers::number;
 use std::alloc::Global;
@@ -116,7 +117,7 @@ fn no_numbers(arguments: &[Token]) -> Result<(), LineError>
     ensures { Parsed (λ n. n) result (λ _. Ends (lexemes arguments.now)) }
 {
     match arguments {
-        [Token::Close(_)] => Ok(()),
+        [Close(_)] => Ok(()),
         _ => Err(LineError::Malformed),
     }
 }
@@ -125,7 +126,7 @@ fn no_numbers(arguments: &[Token]) -> Result<(), LineError>
 fn one_number<A: FromWord>(arguments: &[Token]) -> Result<A, LineError>
     ensures { Parsed A.value result (One A.bits (lexemes arguments.now)) }
 {
-    let [Token::Word(a, _), Token::Close(_)] = arguments else {
+    let [Word(a, _), Close(_)] = arguments else {
         return Err(LineError::Malformed);
     };
     A::from_word(a)
@@ -135,33 +136,41 @@ fn one_number<A: FromWord>(arguments: &[Token]) -> Result<A, LineError>
 fn two_numbers<A: FromWord, B: FromWord>(arguments: &[Token]) -> Result<(A, B), LineError>
     ensures { Parsed (λ p. (A.value p.0, B.value p.1)) result (Two A.bits B.bits (lexemes arguments.now)) }
 {
-    let [Token::Word(a, _), Token::Word(b, _), Token::Close(_)] = arguments else {
+    let [Word(a, _), Word(b, _), Close(_)] = arguments else {
         return Err(LineError::Malformed);
     };
     Ok((A::from_word(a)?, B::from_word(b)?))
 }
 
+// The pair of two words.
+fn read_pair(longword: &[u8], enables: &[u8]) -> Result<Pair, LineError>
+    ensures { Parsed pair_of result (λ p. Reads 32 longword.now p.0 × Reads 64 enables.now p.1) }
+{
+    Ok(Pair {
+        longword: u32::from_word(longword)?,
+        enables: u64::from_word(enables)?,
+    })
+}
+
 // The pairs of a card write, up to the end of the form.
-fn pairs(heap: Global, tokens: &[Token]) -> Result<Vec<Pair>, LineError>
+fn read_pairs(heap: Global, tokens: &[Token]) -> Result<Vec<Pair>, LineError>
     ensures { Parsed (λ v. map pair_of v.items) result (Pairs (lexemes tokens.now)) }
 {
     let mut pairs = Vec::new(heap);
     let mut rest = tokens;
     while let [
-        Token::Open(_),
-        Token::Word(a, _),
-        Token::Word(b, _),
-        Token::Close(_),
+        Open(_),
+        Word(longword, _),
+        Word(enables, _),
+        Close(_),
         more @ ..,
     ] = rest
     {
-        let longword = u32::from_word(a)?;
-        let enables = u64::from_word(b)?;
-        pairs.push(Pair { longword, enables })?;
+        pairs.push(read_pair(longword, enables)?)?;
         rest = more;
     }
     match rest {
-        [Token::Close(_)] => Ok(pairs),
+        [Close(_)] => Ok(pairs),
         _ => Err(LineError::Malformed),
     }
 }
@@ -170,11 +179,11 @@ fn pairs(heap: Global, tokens: &[Token]) -> Result<Vec<Pair>, LineError>
 fn card_write(heap: Global, arguments: &[Token]) -> Result<Form, LineError>
     ensures { ArgsParsed Name.CardWrite (lexemes arguments.now) result }
 {
-    let [Token::Word(a, _), rest @ ..] = arguments else {
+    let [Word(pci, _), pairs @ ..] = arguments else {
         return Err(LineError::Malformed);
     };
-    let pci = u32::from_word(a)?;
-    let pairs = pairs(heap, rest)?;
+    let pci = u32::from_word(pci)?;
+    let pairs = read_pairs(heap, pairs)?;
     Ok(Form::CardWrite { pci, pairs })
 }
 
@@ -206,7 +215,7 @@ fn read_arguments(heap: Global, name: Name, arguments: &[Token]) -> Result<Form,
 fn form_of(heap: Global, tokens: &[Token]) -> Result<Form, LineError>
     ensures { Parsed asked result (Means (lexemes tokens.now)) }
 {
-    let [Token::Open(_), Token::Word(word, _), arguments @ ..] = tokens else {
+    let [Open(_), Word(word, _), arguments @ ..] = tokens else {
         return Err(LineError::Malformed);
     };
     let name = Name::try_from(*word)?;

@@ -47,8 +47,8 @@ impl LineCutter {
         ensures unchanged { OnErr result (held self.new ≡ held self.old) }
     {
         if byte == b'\n' {
-            let next = Ok(Vec::new(heap));
-            return Ok(Some(mem::replace(&mut self.line, next)));
+            let line = mem::replace(&mut self.line, Ok(Vec::new(heap)));
+            return Ok(Some(line));
         }
         self.take(byte)?;
         Ok(None)

@@ -52,11 +52,7 @@ fn word_len(line: &[u8], at: usize) -> usize
     ensures all { WordBytes (take result (drop at line.now)) }
     ensures stops { WordEnds (drop (at + result) line.now) }
 {
-    let mut n = 0;
-    while at + n < line.len() && is_word_byte(line[at + n]) {
-        n += 1;
-    }
-    n
+    line[at..].iter().take_while(|b| is_word_byte(**b)).count()
 }
 
 // Where the token at `at` begins: behind one space, unless it is the first.
@@ -104,9 +100,7 @@ pub fn tokens(heap: Global, line: &[u8]) -> Result<Vec<Token<'_>>, LineError>
     let mut at = 0;
     let mut first = true;
     while at < line.len() {
-        let Some((token, end)) = token_at(line, at, first) else {
-            return Err(LineError::Malformed);
-        };
+        let (token, end) = token_at(line, at, first).ok_or(LineError::Malformed)?;
         out.push(token)?;
         first = is_open(token);
         at = end;
