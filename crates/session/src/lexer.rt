@@ -15,6 +15,14 @@ pub enum Token<'a> {
     Word(&'a [u8], usize),
 }
 
+impl Token<'_> {
+    fn is_open(self) -> bool
+        ensures { result ≡ is_opening (lexeme self.entry) }
+    {
+        matches!(self, Token::Open(_))
+    }
+}
+
 // Why nothing is read of a line: it is malformed, or there is no memory to read it with.
 #[derive(Drop)]
 pub enum LineError {
@@ -75,7 +83,7 @@ fn token_at(line: &[u8], at: usize, first: bool) -> Option<(Token<'_>, usize)>
         return Some((Token::Close(at), at + 1));
     }
     let start = start_of(line, at, first)?;
-    if start < line.len() && line[start] == b'(' {
+    if line.get(start) == Some(&b'(') {
         return Some((Token::Open(start), start + 1));
     }
     let n = word_len(line, start);
@@ -83,12 +91,6 @@ fn token_at(line: &[u8], at: usize, first: bool) -> Option<(Token<'_>, usize)>
         return None;
     }
     Some((Token::Word(&line[start..start + n], start), start + n))
-}
-
-fn is_open(token: Token<'_>) -> bool
-    ensures { result ≡ is_opening (lexeme token.entry) }
-{
-    matches!(token, Token::Open(_))
 }
 
 // The tokens of a line. Words and pairs stand one space apart, with no space after an opening or before a closing
@@ -102,7 +104,7 @@ pub fn tokens(heap: Global, line: &[u8]) -> Result<Vec<Token<'_>>, LineError>
     while at < line.len() {
         let (token, end) = token_at(line, at, first).ok_or(LineError::Malformed)?;
         out.push(token)?;
-        first = is_open(token);
+        first = token.is_open();
         at = end;
     }
     Ok(out)

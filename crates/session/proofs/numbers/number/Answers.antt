@@ -1,7 +1,5 @@
-use Rattle.std.proofs.Common.{◌≡◌, ◌<◌, length, take, ap, ◌∙◌, subst, arith, false-eqb}
-use Rattle.std.specs.Str.Parse.{digits_value, AllDigits}
+use Rattle.std.proofs.Common.{◌<◌, length, arith}
 use Rattle.std.proofs.lemmas.Int.Digits.{digits_value_more, digits_more}
-use Rattle.std.proofs.lemmas.List.{take_all}
 use Rattle.session.proofs.HexWords.{digits_at, room}
 use Rattle.session.proofs.numbers.number.Goals as goal
 
@@ -28,10 +26,3 @@ loop-b-preserved c =
     let e = d.1 in
     let n = c.loop-b.invariant.0 in
     (omega arith, digits_more 16 w i lt c.loop-b.invariant.1 d.0, c.loop-b.invariant.2)
-
-pub returns : goal.returns
-returns c =
-    let w = c.args.word.now in
-    let all : take c.loop-b.b-index w ≡ w = take_all c.loop-b.b-index w (omega arith) in
-    let some = false-eqb (length w) 0 c.if-is_empty.ensures in
-    (((omega arith, subst (AllDigits 16) all c.loop-b.invariant.1), c.loop-b.invariant.2), c.loop-b.invariant.0 ∙ ap (digits_value 16) all)
