@@ -76,8 +76,8 @@ impl FromWord for u32 {
     ghost value = { λ n. n };
 
     fn from_word(word: &[u8]) -> Result<u32, LineError> {
-        let number = u64::from_word(word)?;
-        Ok(u32::try_from(number)?)
+        let quadword = u64::from_word(word)?;
+        Ok(u32::try_from(quadword)?)
     }
 }
 
