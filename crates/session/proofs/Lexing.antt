@@ -30,15 +30,6 @@ span_unique (c ∷ w) (d ∷ v) r s pw pv sr ss e =
     let t0 = t.0 in
     ((cc), t.1)
 
--- no token comes first where none of the three does
-pub nothing : (first : Bool) (bs body : List ℕ) → bs ≡ space first ++ body → (get_or bs 0 0 ≡ 41 → ⊥) → (get_or body 0 0 ≡ 40 → ⊥) → WordEnds body → (t : Lexeme) (rest : List ℕ) → Step first bs t rest → ⊥
-nothing first bs body e n41 n40 st opening rest s =
-    n40 (ap (λ l. get_or l 0 0) (append_cancel_left (space first) body (40 ∷ rest) (sym e ∙ s.split)))
-nothing first bs body e n41 n40 st closing rest s = n41 (ap (λ l. get_or l 0 0) s.split)
-nothing first bs body e n41 n40 st (word_of []) rest s = let h : 0 < 0 = s.valid.0 in omega arith
-nothing first bs body e n41 n40 st (word_of (c ∷ w)) rest s =
-    stops_at body c (w ++ rest) st (append_cancel_left (space first) body (c ∷ w ++ rest) (sym e ∙ s.split)) s.valid.1.0
-
 -- a word is no parenthesis
 not_word : (w : List ℕ) (b : ℕ) (r s : List ℕ) → word_byte b ≡ false → 0 < length w → WordBytes w → w ++ r ≡ b ∷ s → ⊥
 not_word [] b r s n l p e = omega arith
@@ -149,9 +140,6 @@ pub goes_on : (line : List ℕ) (ts ts' : List Token) (at : ℕ) (first first' :
 goes_on line ts ts' at first first' t next h s o n e g =
     subst (λ x. SoFar line ts' next x) (sym g) (subst (λ l. SoFar line l next (is_opening (lexeme t))) (sym e) (one_more line ts at first t next h s o n))
 
-pub start : (line : List ℕ) → SoFar line [] 0 true
-start line = record { placed = tt; here = refl; first_here = refl; goes = λ us l. l; back = λ us l. (us, refl, l) }
-
 pub done : (line : List ℕ) (ts : List Token) (at : ℕ) (first : Bool) → SoFar line ts at first → drop at line ≡ [] → Lexes true line (lexemes ts)
 done line ts at first h e = subst (Lexes true line) (append-nil (lexemes ts)) (h.goes [] (record { bytes = e; valid = tt }))
 
@@ -163,17 +151,6 @@ fails line ts at first h some none us l = stops (h.back us l).0 (h.back us l).2
     stops [] k = omega (arith, ap length k.bytes)
     stops (v ∷ vs) k = none v _ (first_step first (drop at line) v vs k)
 
-pub closing_step : (first : Bool) (bs rest : List ℕ) → bs ≡ 41 ∷ rest → Step first bs closing rest
-closing_step first bs rest e = record { split = e; valid = tt; whole = tt }
-
-pub unspaced : (first : Bool) (bs : List ℕ) → (get_or bs 0 0 ≡ 41 → ⊥) → ((body : List ℕ) → bs ≡ space first ++ body → ⊥) → (t : Lexeme) (rest : List ℕ) → Step first bs t rest → ⊥
-unspaced first bs n none opening rest s = none _ s.split
-unspaced first bs n none closing rest s = n (ap (λ l. get_or l 0 0) s.split)
-unspaced first bs n none (word_of w) rest s = none _ s.split
-
-pub opening_step : (first : Bool) (bs rest : List ℕ) → bs ≡ space first ++ 40 ∷ rest → Step first bs opening rest
-opening_step first bs rest e = record { split = e; valid = tt; whole = tt }
-
 pub word_step : (first : Bool) (bs line : List ℕ) (s n : ℕ) → bs ≡ space first ++ drop s line → 0 < n → s + n ≤ length line → WordBytes (take n (drop s line)) → WordEnds (drop (s + n) line) → Step first bs (word_of (take n (drop s line))) (drop (s + n) line)
 word_step first bs line s n e some fits all st =
     let long : length (take n (drop s line)) ≡ n = length-take-le n (drop s line) (simp length-drop (omega arith)) in
@@ -182,10 +159,6 @@ word_step first bs line s n e some fits all st =
       valid = (omega arith, all);
       whole = st;
     }
-
--- the byte at i, and what comes after it
-pub at_byte : (line : List ℕ) (i b : ℕ) → i < length line → get_or line i 0 ≡ b → drop i line ≡ b ∷ drop (i + 1) line
-at_byte line i b lt e = drop_more line i 0 lt ∙ ap (λ x. x ∷ drop (i + 1) line) e
 
 -- a line has one list of tokens
 pub lexes_once : (ts us : List Lexeme) (first : Bool) (bs : List ℕ) → Lexes first bs ts → Lexes first bs us → ts ≡ us

@@ -1,5 +1,5 @@
 -- From the tokens behind a name to the form, and from the tokens of a line to the line.
-use Rattle.std.proofs.Common.{◌≡◌, ℕ, ◌≤◌, true, false, cond, List, ◌∷◌, length, Ok, Err, codes, Result, sym, refl, ap, ◌∙◌, subst}
+use Rattle.std.proofs.Common.{◌≡◌, ℕ, ◌≤◌, true, cond, List, ◌∷◌, length, Ok, Err, codes, Result, sym, refl, ap, ◌∙◌, subst}
 use Rattle.std.specs.Str.{bytes_eq}
 use Rattle.session.specs.declared.lexer.LineError.{LineError}
 use Rattle.session.specs.declared.lexer.LineError.TheVariants.{Malformed, NoMemory}
@@ -8,7 +8,7 @@ use Rattle.session.specs.declared.forms.Name.TheVariants as N
 use Rattle.session.specs.declared.forms.Form.{Form}
 use Rattle.session.specs.Tokens.{Lexeme, opening, word_of, Lexes}
 use Rattle.session.specs.Forms.{is_served, name_bytes, Payload, Args, ArgsParsed, Asked, asked, Means, Spells, Parsed}
-use Rattle.session.proofs.Lexing.{clash, lexes_once}
+use Rattle.session.proofs.Lexing.{lexes_once}
 
 -- a name is known by its bytes
 abbrev named : List ℕ → Name
@@ -50,13 +50,6 @@ pub form_parsed : (ts us : List Lexeme) (v : Name) (r : Result Form LineError) �
 form_parsed ts us v (Ok f) e served h = subst (Means ts) (sym h.1) (us, e, h.2, served)
 form_parsed ts us v (Err Malformed) e served h = λ y m. let o = only ts us v e y m in h o.0 o.2
 form_parsed ts us v (Err NoMemory) e served h = tt
-
--- a name that is not served means nothing
-pub form_unserved : (ts us : List Lexeme) (v : Name) → ts ≡ opening ∷ word_of (name_bytes v) ∷ us → is_served v ≡ false → (y : Asked) → Means ts y → ⊥
-form_unserved ts us v e unserved y m =
-    let o = only ts us v e y m in
-    let z : false ≡ true = sym unserved ∙ ap (λ (x : Asked). is_served x.0) (sym o.1) ∙ m.3 in
-    clash false z refl
 
 pub line_parsed : (line : List ℕ) (ts : List Lexeme) (r : Result Form LineError) → length line ≤ 256 → Lexes true line ts → Parsed asked r (Means ts) → Parsed asked r (Spells line)
 line_parsed line ts (Ok f) n l h = (n, ts, l, h)

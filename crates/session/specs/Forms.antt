@@ -1,16 +1,13 @@
 -- Which lines are forms, and what each form asks for.
-use Rattle.std.specs.Prelude.{◌≡◌, ℕ, ◌+◌, ◌<◌, ◌≤◌, Bool, true, false, List, [], ◌∷◌, map, length, drop, Ok, Err, vec_items, codes, Result, ◌≢◌}
+use Rattle.std.specs.Prelude.{◌≡◌, ℕ, ◌≤◌, Bool, true, false, List, [], ◌∷◌, map, length, Ok, Err, vec_items, codes, Result, ◌≢◌}
 use Rattle.session.specs.declared.lexer.LineError.{LineError}
 use Rattle.session.specs.declared.lexer.LineError.TheVariants.{Malformed, NoMemory}
-use Rattle.session.specs.declared.lexer.Token.{Token}
-use Rattle.session.specs.declared.forms.Width.{Width}
-use Rattle.session.specs.declared.forms.Width.TheVariants.{Longword, Quadword}
 use Rattle.session.specs.declared.forms.Name.{Name}
 use Rattle.session.specs.declared.forms.Name.TheVariants as N
 use Rattle.session.specs.declared.forms.Pair.{Pair}
 use Rattle.session.specs.declared.forms.Form.{Form}
 use Rattle.session.specs.declared.forms.Form.TheVariants as F
-use Rattle.session.specs.Tokens.{Lexeme, opening, closing, word_of, lexemes, Lexes}
+use Rattle.session.specs.Tokens.{Lexeme, opening, closing, word_of, Lexes}
 use Rattle.session.specs.Hex.{Reads}
 
 -- how a name is written
@@ -25,6 +22,11 @@ name_bytes N.Log = codes "log"
 name_bytes N.LogClear = codes "log-clear"
 name_bytes N.CardRead = codes "card-read"
 name_bytes N.CardWrite = codes "card-write"
+
+-- what is answered where a word is read as a name
+abbrev pub Named : List ℕ → Result Name LineError → Type 0
+Named w (Ok v) = w ≡ name_bytes v
+Named w (Err e) = (e ≡ Malformed) × ((v : Name) → w ≢ name_bytes v)
 
 -- what a form of each name carries; a card write's pairs are longwords, each with the number that enables its bytes
 abbrev pub Payload : Name → Type 0
@@ -57,11 +59,6 @@ asked F.Log = (N.Log, tt)
 asked F.LogClear = (N.LogClear, tt)
 asked (F.CardRead pci count) = (N.CardRead, (pci, count))
 asked (F.CardWrite pci pairs) = (N.CardWrite, (pci, map pair_of (vec_items pairs)))
-
--- how many bits a number of each width has at most
-abbrev pub width_bits : Width → ℕ
-width_bits Longword = 32
-width_bits Quadword = 64
 
 -- the tokens of a form behind its name: none but the closing parenthesis
 abbrev pub Ends : List Lexeme → Type 0
@@ -137,17 +134,3 @@ abbrev pub ArgsParsed : (v : Name) → List Lexeme → Result Form LineError →
 ArgsParsed v ts (Ok f) = (x : Payload v) × (asked f ≡ (v, x)) × Args v ts x
 ArgsParsed v ts (Err Malformed) = (x : Payload v) → Args v ts x → ⊥
 ArgsParsed v ts (Err NoMemory) = Unit {0}
-
--- the same of the pair at index i, which has four tokens
-abbrev pub PairParsed : List Token → ℕ → Result Pair LineError → Type 0
-PairParsed ts i (Ok p) = (i + 4 ≤ length ts) × PairFirst (lexemes (drop i ts)) (pair_of p) (lexemes (drop (i + 4) ts))
-PairParsed ts i (Err Malformed) = (p : ℕ × ℕ) (us : List Lexeme) → PairFirst (lexemes (drop i ts)) p us → ⊥
-PairParsed ts i (Err NoMemory) = Unit {0}
-
--- the token t stands at index i
-abbrev pub Stands : List Token → ℕ → Lexeme → Type 0
-Stands ts i t = (i < length ts) × (lexemes (drop i ts) ≡ t ∷ lexemes (drop (i + 1) ts))
-
--- the token t does not stand at index i
-abbrev pub Lacks : List Token → ℕ → Lexeme → Type 0
-Lacks ts i t = (us : List Lexeme) → lexemes (drop i ts) ≢ t ∷ us

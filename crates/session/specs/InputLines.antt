@@ -1,8 +1,8 @@
 -- The lines of an input. The byte 0Ah ends a line and is no part of it; a last line may lack it.
-use Rattle.std.specs.Prelude.{◌≡◌, ℕ, ◌<◌, cond, List, [], ◌∷◌, ◌++◌, map, length, Some, None, vec_items, Option, ◌==◌, nat_le, nat_lt}
+use Rattle.std.specs.Prelude.{◌≡◌, ℕ, ◌<◌, cond, List, [], ◌∷◌, ◌++◌, map, length, Some, None, Ok, Err, vec_items, Option, Result, Vec, ◌==◌, nat_le, nat_lt}
 use Rattle.std.specs.List.{AllByRecursion}
-use Rattle.session.specs.declared.input.InputLine.{InputLine}
-use Rattle.session.specs.declared.input.InputLine.TheVariants.{TooLong, Whole}
+use Rattle.std.specs.declared.alloc.Global.{Global}
+use Rattle.session.specs.declared.input.TooLong.{TooLong}
 use Rattle.session.specs.declared.input.LineCutter.{LineCutter}
 
 -- a byte of a line
@@ -55,12 +55,15 @@ abbrev pub CutAtEnds : Type 0
 CutAtEnds = (input : List ℕ) → (lines : List (List ℕ)) × LinesOf input lines × (lines_from (kept []) input ≡ map cut_of lines)
 
 -- the code's values by these
-abbrev pub held : LineCutter → Cut
-held c = cond c.too_long too_long (kept (vec_items c.line))
+abbrev InputLine : Type 0
+InputLine = Result (Vec ℕ Global) TooLong
 
 abbrev pub line_given : InputLine → Cut
-line_given (Whole bytes) = kept (vec_items bytes)
-line_given TooLong = too_long
+line_given (Ok bytes) = kept (vec_items bytes)
+line_given (Err e) = too_long
+
+abbrev pub held : LineCutter → Cut
+held c = line_given c.line
 
 abbrev pub option_given : Option InputLine → Option Cut
 option_given None = None

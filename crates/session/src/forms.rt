@@ -1,23 +1,17 @@
 // The forms of a session, and how a line is read as one.
-ghost use Rattle.std.specs.Prelude.{◌≡◌, ℕ, ◌≤◌, List, map, length, drop, Decides, MatchBool, MatchOption, ◌≢◌};
+ghost use Rattle.std.specs.Prelude.{◌≡◌, ℕ, map};
 ghost use Rattle.session.specs.FormLines.{EachSpelled};
-ghost use Rattle.session.specs.Forms.{ArgsParsed, Ends, Lacks, Means, Once, One, PairParsed, Pairs, Parsed, Spells, Stands, Two, asked, is_served, name_bytes, pair_of, width_bits};
+ghost use Rattle.session.specs.Forms.{ArgsParsed, Ends, Means, Named, Once, One, Pairs, Parsed, Spells, Two, asked, is_served, pair_of};
 ghost use Rattle.session.specs.Hex.{Reads};
-ghost use Rattle.session.specs.Tokens.{closing, lexemes, opening, word_of};
+ghost use Rattle.session.specs.Tokens.{lexemes};
 
+use crate::lexer::Token::{Close, Open, Word};
 use crate::lexer::{LineError, Token, tokens};
 use crate::numbers::number;
 use std::alloc::Global;
 
 // A longer line is no form.
 pub const LONGEST_LINE: usize = 256;
-
-// How many bits a number may have: those of a longword or of a quadword.
-#[derive(Clone, Copy)]
-enum Width {
-    Longword,
-    Quadword,
-}
 
 #[derive(Clone, Copy)]
 enum Name {
@@ -55,261 +49,180 @@ pub enum Form {
     CardWrite { pci: u32, pairs: Vec<Pair> },
 }
 
-// The word at index i.
-fn word_at<'a>(tokens: &[Token<'a>], i: usize) -> Option<&'a [u8]>
-    ensures { MatchOption result ((w : List ℕ) → Lacks tokens.now i (word_of w)) (λ w. Stands tokens.now i (word_of w.now)) }
-{
-    if i >= tokens.len() {
-        return None;
-    }
-    match tokens[i] {
-        Token::Word(w, _) => Some(w),
-        _ => None,
-    }
+// A type of the numbers of a form: `u64` for a quadword, `u32` for a longword.
+trait FromWord: Copy {
+    ghost bits: { ℕ };
+
+    ghost value: { Self → ℕ };
+
+    // The number that a word writes, where it fits the type.
+    fn from_word(word: &[u8]) -> Result<Self, LineError>
+        ensures { Parsed value result (Reads bits word.now) };
 }
 
-fn opens_at(tokens: &[Token], i: usize) -> bool
-    ensures { MatchBool result (Stands tokens.now i opening) (Lacks tokens.now i opening) }
-{
-    i < tokens.len() && matches!(tokens[i], Token::Open(_))
-}
+impl FromWord for u64 {
+    ghost bits = { 64 };
 
-fn closes_at(tokens: &[Token], i: usize) -> bool
-    ensures { MatchBool result (Stands tokens.now i closing) (Lacks tokens.now i closing) }
-{
-    i < tokens.len() && matches!(tokens[i], Token::Close(_))
-}
+    ghost value = { λ n. n };
 
-// Whether a closing parenthesis stands at index i, and nothing after it.
-fn ends_at(tokens: &[Token], i: usize) -> bool
-    ensures { Decides result (Ends (lexemes (drop i tokens.now))) }
-{
-    closes_at(tokens, i) && i + 1 == tokens.len()
-}
-
-fn is(word: &[u8], text: &str) -> bool
-    ensures { Decides result (word.now ≡ text.now) }
-{
-    word == text.as_bytes()
-}
-
-fn name_of(word: &[u8]) -> Option<Name>
-    ensures { MatchOption result ((v : Name) → word.now ≢ name_bytes v) (λ v. word.now ≡ name_bytes v) }
-{
-    if is(word, "cpu-store") {
-        Some(Name::CpuStore)
-    } else if is(word, "cpu-load") {
-        Some(Name::CpuLoad)
-    } else if is(word, "mark") {
-        Some(Name::Mark)
-    } else if is(word, "reg-read") {
-        Some(Name::RegRead)
-    } else if is(word, "reg-write") {
-        Some(Name::RegWrite)
-    } else if is(word, "pci") {
-        Some(Name::Pci)
-    } else if is(word, "log") {
-        Some(Name::Log)
-    } else if is(word, "log-clear") {
-        Some(Name::LogClear)
-    } else if is(word, "card-read") {
-        Some(Name::CardRead)
-    } else if is(word, "card-write") {
-        Some(Name::CardWrite)
-    } else {
-        None
+    fn from_word(word: &[u8]) -> Result<u64, LineError> {
+        number(word).ok_or(LineError::Malformed)
     }
 }
 
-// The number that a word writes, where it fits the width.
-fn read_number(word: &[u8], width: Width) -> Result<u64, LineError>
-    ensures { Parsed (λ n. n) result (Reads (width_bits width) word.now) }
+impl FromWord for u32 {
+    ghost bits = { 32 };
+
+    ghost value = { λ n. n };
+
+    fn from_word(word: &[u8]) -> Result<u32, LineError> {
+        let quadword = u64::from_word(word)?;
+        Ok(u32::try_from(quadword)?)
+    }
+}
+
+impl TryFrom<&[u8]> for Name {
+    type Error = LineError;
+
+    ghost try_from_gives = { λ word outcome. Named word.now outcome };
+
+    fn try_from(word: &[u8]) -> Result<Name, LineError> {
+        match word {
+            b"cpu-store" => Ok(Name::CpuStore),
+            b"cpu-load" => Ok(Name::CpuLoad),
+            b"mark" => Ok(Name::Mark),
+            b"reg-read" => Ok(Name::RegRead),
+            b"reg-write" => Ok(Name::RegWrite),
+            b"pci" => Ok(Name::Pci),
+            b"log" => Ok(Name::Log),
+            b"log-clear" => Ok(Name::LogClear),
+            b"card-read" => Ok(Name::CardRead),
+            b"card-write" => Ok(Name::CardWrite),
+            _ => Err(LineError::Malformed),
+        }
+    }
+}
+
+impl Name {
+    // Whether forms of the name are served so far.
+    fn is_served(self) -> bool
+        ensures { result ≡ is_served self }
+    {
+        matches!(self, Name::CpuStore | Name::CpuLoad | Name::Mark)
+    }
+}
+
+// No number: the form ends behind its name.
+fn no_numbers(arguments: &[Token]) -> Result<(), LineError>
+    ensures { Parsed (λ n. n) result (λ _. Ends (lexemes arguments.now)) }
 {
-    let Some(n) = number(word) else {
+    match arguments {
+        [Close(_)] => Ok(()),
+        _ => Err(LineError::Malformed),
+    }
+}
+
+// The only number of a form.
+fn one_number<A: FromWord>(arguments: &[Token]) -> Result<A, LineError>
+    ensures { Parsed A.value result (One A.bits (lexemes arguments.now)) }
+{
+    let [Word(a, _), Close(_)] = arguments else {
         return Err(LineError::Malformed);
     };
-    match width {
-        Width::Longword if n > 0xffff_ffff => Err(LineError::Malformed),
-        _ => Ok(n),
-    }
-}
-
-fn read_both(a: &[u8], first: Width, b: &[u8], second: Width) -> Result<(u64, u64), LineError>
-    ensures { Parsed (λ p. p) result (λ (p : ℕ × ℕ). Reads (width_bits first) a.now p.0 × Reads (width_bits second) b.now p.1) }
-{
-    let m = read_number(a, first)?;
-    let n = read_number(b, second)?;
-    Ok((m, n))
-}
-
-// The form, where nothing stands behind its name.
-fn no_numbers(tokens: &[Token], form: Form) -> Result<Form, LineError>
-    ensures { Parsed (λ f. f) result (λ f. (f ≡ form) × Ends (lexemes (drop 2 tokens.now))) }
-{
-    if ends_at(tokens, 2) {
-        Ok(form)
-    } else {
-        Err(LineError::Malformed)
-    }
-}
-
-// The only number of a form, which stands behind the name.
-fn one_number(tokens: &[Token], width: Width) -> Result<u64, LineError>
-    ensures { Parsed (λ n. n) result (One (width_bits width) (lexemes (drop 2 tokens.now))) }
-{
-    let Some(a) = word_at(tokens, 2) else {
-        return Err(LineError::Malformed);
-    };
-    if !ends_at(tokens, 3) {
-        return Err(LineError::Malformed);
-    }
-    read_number(a, width)
+    A::from_word(a)
 }
 
 // The two numbers of a form.
-fn two_numbers(tokens: &[Token], first: Width, second: Width) -> Result<(u64, u64), LineError>
-    ensures { Parsed (λ p. p) result (Two (width_bits first) (width_bits second) (lexemes (drop 2 tokens.now))) }
+fn two_numbers<A: FromWord, B: FromWord>(arguments: &[Token]) -> Result<(A, B), LineError>
+    ensures { Parsed (λ p. (A.value p.0, B.value p.1)) result (Two A.bits B.bits (lexemes arguments.now)) }
 {
-    let Some(a) = word_at(tokens, 2) else {
+    let [Word(a, _), Word(b, _), Close(_)] = arguments else {
         return Err(LineError::Malformed);
     };
-    let Some(b) = word_at(tokens, 3) else {
-        return Err(LineError::Malformed);
-    };
-    if !ends_at(tokens, 4) {
-        return Err(LineError::Malformed);
-    }
-    read_both(a, first, b, second)
+    Ok((A::from_word(a)?, B::from_word(b)?))
 }
 
-// The pair at index i, which has four tokens.
-fn pair_at(tokens: &[Token], i: usize) -> Result<Pair, LineError>
-    requires { i ≤ length tokens.now }
-    ensures { PairParsed tokens.now i result }
+// The pair of two words.
+fn read_pair(longword: &[u8], enables: &[u8]) -> Result<Pair, LineError>
+    ensures { Parsed pair_of result (λ p. Reads 32 longword.now p.0 × Reads 64 enables.now p.1) }
 {
-    if !opens_at(tokens, i) {
-        return Err(LineError::Malformed);
-    }
-    let Some(a) = word_at(tokens, i + 1) else {
-        return Err(LineError::Malformed);
-    };
-    let Some(b) = word_at(tokens, i + 2) else {
-        return Err(LineError::Malformed);
-    };
-    if !closes_at(tokens, i + 3) {
-        return Err(LineError::Malformed);
-    }
-    let (longword, enables) = read_both(a, Width::Longword, b, Width::Quadword)?;
     Ok(Pair {
-        longword: longword as u32,
-        enables,
+        longword: u32::from_word(longword)?,
+        enables: u64::from_word(enables)?,
     })
 }
 
-// The pairs from an index on, up to the end of the form.
-fn pairs_from(heap: Global, tokens: &[Token], start: usize) -> Result<Vec<Pair>, LineError>
-    requires { start ≤ length tokens.now }
-    ensures { Parsed (λ v. map pair_of v.items) result (Pairs (lexemes (drop start tokens.now))) }
+// The pairs of a card write, up to the end of the form.
+fn read_pairs(heap: Global, tokens: &[Token]) -> Result<Vec<Pair>, LineError>
+    ensures { Parsed (λ v. map pair_of v.items) result (Pairs (lexemes tokens.now)) }
 {
     let mut pairs = Vec::new(heap);
-    let mut i = start;
-    while !ends_at(tokens, i) {
-        let pair = pair_at(tokens, i)?;
-        pairs.push(pair)?;
-        i += 4;
+    let mut rest = tokens;
+    while let [
+        Open(_),
+        Word(longword, _),
+        Word(enables, _),
+        Close(_),
+        more @ ..,
+    ] = rest
+    {
+        pairs.push(read_pair(longword, enables)?)?;
+        rest = more;
     }
-    Ok(pairs)
-}
-
-// A card read: a PCI address and a count.
-fn card_read(tokens: &[Token]) -> Result<Form, LineError>
-    ensures { ArgsParsed Name.CardRead (lexemes (drop 2 tokens.now)) result }
-{
-    let (pci, count) = two_numbers(tokens, Width::Longword, Width::Quadword)?;
-    Ok(Form::CardRead {
-        pci: pci as u32,
-        count,
-    })
+    match rest {
+        [Close(_)] => Ok(pairs),
+        _ => Err(LineError::Malformed),
+    }
 }
 
 // A card write: a PCI address and pairs.
-fn card_write(heap: Global, tokens: &[Token]) -> Result<Form, LineError>
-    ensures { ArgsParsed Name.CardWrite (lexemes (drop 2 tokens.now)) result }
+fn card_write(heap: Global, arguments: &[Token]) -> Result<Form, LineError>
+    ensures { ArgsParsed Name.CardWrite (lexemes arguments.now) result }
 {
-    let Some(a) = word_at(tokens, 2) else {
+    let [Word(pci, _), pairs @ ..] = arguments else {
         return Err(LineError::Malformed);
     };
-    let pci = read_number(a, Width::Longword)?;
-    let pairs = pairs_from(heap, tokens, 3)?;
-    Ok(Form::CardWrite {
-        pci: pci as u32,
-        pairs,
-    })
+    let pci = u32::from_word(pci)?;
+    let pairs = read_pairs(heap, pairs)?;
+    Ok(Form::CardWrite { pci, pairs })
 }
 
 // The form of a name, with what stands behind the name.
-fn arguments(heap: Global, name: Name, tokens: &[Token]) -> Result<Form, LineError>
-    ensures { ArgsParsed name (lexemes (drop 2 tokens.now)) result }
+fn read_arguments(heap: Global, name: Name, arguments: &[Token]) -> Result<Form, LineError>
+    ensures { ArgsParsed name (lexemes arguments.now) result }
 {
     match name {
-        Name::CpuStore => {
-            let (address, value) = two_numbers(tokens, Width::Quadword, Width::Quadword)?;
-            Ok(Form::CpuStore { address, value })
-        }
-        Name::CpuLoad => {
-            let address = one_number(tokens, Width::Quadword)?;
-            Ok(Form::CpuLoad { address })
-        }
-        Name::Mark => {
-            let line = one_number(tokens, Width::Quadword)?;
-            Ok(Form::Mark { line })
-        }
-        Name::RegRead => {
-            let register = one_number(tokens, Width::Quadword)?;
-            Ok(Form::RegRead { register })
-        }
-        Name::RegWrite => {
-            let (register, value) = two_numbers(tokens, Width::Quadword, Width::Longword)?;
-            Ok(Form::RegWrite {
-                register,
-                value: value as u32,
-            })
-        }
-        Name::Pci => {
-            let address = one_number(tokens, Width::Quadword)?;
-            Ok(Form::Pci { address })
-        }
-        Name::Log => no_numbers(tokens, Form::Log),
-        Name::LogClear => no_numbers(tokens, Form::LogClear),
-        Name::CardRead => card_read(tokens),
-        Name::CardWrite => card_write(heap, tokens),
+        Name::CpuStore => two_numbers(arguments).map(|(address, value)| Form::CpuStore {
+            address,
+            value,
+        }),
+        Name::CpuLoad => one_number(arguments).map(|address| Form::CpuLoad { address }),
+        Name::Mark => one_number(arguments).map(|line| Form::Mark { line }),
+        Name::RegRead => one_number(arguments).map(|register| Form::RegRead { register }),
+        Name::RegWrite => two_numbers(arguments).map(|(register, value)| Form::RegWrite {
+            register,
+            value,
+        }),
+        Name::Pci => one_number(arguments).map(|address| Form::Pci { address }),
+        Name::Log => no_numbers(arguments).map(|()| Form::Log),
+        Name::LogClear => no_numbers(arguments).map(|()| Form::LogClear),
+        Name::CardRead => two_numbers(arguments).map(|(pci, count)| Form::CardRead { pci, count }),
+        Name::CardWrite => card_write(heap, arguments),
     }
-}
-
-// Whether forms of a name are served so far.
-fn is_served(name: Name) -> bool
-    ensures { result ≡ is_served name }
-{
-    matches!(name, Name::CpuStore | Name::CpuLoad | Name::Mark)
 }
 
 // The form that the tokens of a line spell.
 fn form_of(heap: Global, tokens: &[Token]) -> Result<Form, LineError>
     ensures { Parsed asked result (Means (lexemes tokens.now)) }
 {
-    if !opens_at(tokens, 0) {
-        return Err(LineError::Malformed);
-    }
-    let Some(word) = word_at(tokens, 1) else {
+    let [Open(_), Word(word, _), arguments @ ..] = tokens else {
         return Err(LineError::Malformed);
     };
-    let Some(name) = name_of(word) else {
-        return Err(LineError::Malformed);
-    };
-    if !is_served(name) {
+    let name = Name::try_from(*word)?;
+    if !name.is_served() {
         return Err(LineError::Malformed);
     }
-    arguments(heap, name, tokens)
+    read_arguments(heap, name, arguments)
 }
 
 // The form that a line spells. The line is malformed just where it spells none.

@@ -1,23 +1,22 @@
 // The input cut into lines, byte by byte. That a line is too long is remembered, and its bytes are not kept.
 ghost use Rattle.std.specs.Prelude.{◌≡◌, [], IfOk, OnErr, OnOk};
-ghost use Rattle.session.specs.InputLines.{CutAtEnds, fed, given, held, kept, last_line, line_given, lines_given, taken};
+ghost use Rattle.session.specs.InputLines.{CutAtEnds, fed, given, held, kept, last_line, lines_given, taken};
 
 use crate::forms::LONGEST_LINE;
 use std::alloc::{AllocError, Global};
 use std::mem;
 
-// A line of the input, without the byte that ends it.
-#[derive(Drop)]
-pub enum InputLine {
-    Whole(Vec<u8>),
-    TooLong,
-}
+// A line of more than `LONGEST_LINE` bytes, which are not kept.
+#[derive(Clone, Copy)]
+pub struct TooLong;
 
-// The line that has begun.
+// A line of the input, without the byte that ends it.
+pub type InputLine = Result<Vec<u8>, TooLong>;
+
+// Cuts an input into lines. It holds the line that has begun.
 #[derive(Drop)]
 pub struct LineCutter {
-    line: Vec<u8>,
-    too_long: bool,
+    line: InputLine,
 }
 
 impl LineCutter {
@@ -26,22 +25,8 @@ impl LineCutter {
         ensures { held result ≡ kept [] }
     {
         LineCutter {
-            line: Vec::new(heap),
-            too_long: false,
+            line: Ok(Vec::new(heap)),
         }
-    }
-
-    // Ends the line, and begins a new one.
-    fn end(&mut self, heap: Global) -> InputLine
-        ensures line { line_given result ≡ held self.old }
-        ensures after { held self.new ≡ kept [] }
-    {
-        let line = mem::replace(&mut self.line, Vec::new(heap));
-        if self.too_long {
-            self.too_long = false;
-            return InputLine::TooLong;
-        }
-        InputLine::Whole(line)
     }
 
     // Takes a byte of the line.
@@ -49,14 +34,9 @@ impl LineCutter {
         ensures taken { OnOk result (held self.new ≡ taken (held self.old) byte) }
         ensures unchanged { OnErr result (held self.new ≡ held self.old) }
     {
-        if self.too_long {
-            return Ok(());
-        }
-        if self.line.len() < LONGEST_LINE {
-            self.line.push(byte)?;
-        } else {
-            self.too_long = true;
-            self.line.clear();
+        match &mut self.line {
+            Ok(bytes) if bytes.len() < LONGEST_LINE => bytes.push(byte)?,
+            _ => self.line = Err(TooLong),
         }
         Ok(())
     }
@@ -67,7 +47,8 @@ impl LineCutter {
         ensures unchanged { OnErr result (held self.new ≡ held self.old) }
     {
         if byte == b'\n' {
-            return Ok(Some(self.end(heap)));
+            let line = mem::replace(&mut self.line, Ok(Vec::new(heap)));
+            return Ok(Some(line));
         }
         self.take(byte)?;
         Ok(None)
@@ -77,13 +58,10 @@ impl LineCutter {
     pub fn finish(self) -> Option<InputLine>
         ensures { lines_given result ≡ last_line (held self) }
     {
-        if self.too_long {
-            return Some(InputLine::TooLong);
+        match self.line {
+            Ok(bytes) if bytes.is_empty() => None,
+            line => Some(line),
         }
-        if self.line.is_empty() {
-            return None;
-        }
-        Some(InputLine::Whole(self.line))
     }
 }
 

@@ -2,9 +2,10 @@
 ghost use Rattle.std.specs.Prelude.{◌≡◌, ◌+◌, ◌<◌, ◌≤◌, length, take, drop};
 ghost use Rattle.session.specs.Steps.{Cuts, Starts, Taken, WordEnds};
 ghost use Rattle.session.specs.Tokens.{WordBytes, is_opening, lexeme, word_byte};
-ghost use Rattle.session.specs.declared.lexer.LineError.TheVariants.{NoMemory};
+ghost use Rattle.session.specs.declared.lexer.LineError.TheVariants.{Malformed, NoMemory};
 
 use std::alloc::{AllocFailed, Global};
+use std::num::TryFromIntError;
 
 // A parenthesis or a word, with the offset of its first byte.
 #[derive(Clone, Copy)]
@@ -12,6 +13,14 @@ pub enum Token<'a> {
     Open(usize),
     Close(usize),
     Word(&'a [u8], usize),
+}
+
+impl Token<'_> {
+    fn is_open(self) -> bool
+        ensures { result ≡ is_opening (lexeme self.entry) }
+    {
+        matches!(self, Token::Open(_))
+    }
 }
 
 // Why nothing is read of a line: it is malformed, or there is no memory to read it with.
@@ -29,6 +38,15 @@ impl<T: Drop> From<AllocFailed<T>> for LineError {
     }
 }
 
+// The number of a word is too large for its type.
+impl From<TryFromIntError> for LineError {
+    ghost from_gives = { λ _ e. e ≡ Malformed };
+
+    fn from(_: TryFromIntError) -> Self {
+        Self::Malformed
+    }
+}
+
 fn is_word_byte(b: u8) -> bool
     ensures { result ≡ word_byte b }
 {
@@ -42,11 +60,7 @@ fn word_len(line: &[u8], at: usize) -> usize
     ensures all { WordBytes (take result (drop at line.now)) }
     ensures stops { WordEnds (drop (at + result) line.now) }
 {
-    let mut n = 0;
-    while at + n < line.len() && is_word_byte(line[at + n]) {
-        n += 1;
-    }
-    n
+    line[at..].iter().take_while(|b| is_word_byte(**b)).count()
 }
 
 // Where the token at `at` begins: behind one space, unless it is the first.
@@ -69,7 +83,7 @@ fn token_at(line: &[u8], at: usize, first: bool) -> Option<(Token<'_>, usize)>
         return Some((Token::Close(at), at + 1));
     }
     let start = start_of(line, at, first)?;
-    if start < line.len() && line[start] == b'(' {
+    if line.get(start) == Some(&b'(') {
         return Some((Token::Open(start), start + 1));
     }
     let n = word_len(line, start);
@@ -77,12 +91,6 @@ fn token_at(line: &[u8], at: usize, first: bool) -> Option<(Token<'_>, usize)>
         return None;
     }
     Some((Token::Word(&line[start..start + n], start), start + n))
-}
-
-fn is_open(token: Token<'_>) -> bool
-    ensures { result ≡ is_opening (lexeme token.entry) }
-{
-    matches!(token, Token::Open(_))
 }
 
 // The tokens of a line. Words and pairs stand one space apart, with no space after an opening or before a closing
@@ -94,11 +102,9 @@ pub fn tokens(heap: Global, line: &[u8]) -> Result<Vec<Token<'_>>, LineError>
     let mut at = 0;
     let mut first = true;
     while at < line.len() {
-        let Some((token, end)) = token_at(line, at, first) else {
-            return Err(LineError::Malformed);
-        };
+        let (token, end) = token_at(line, at, first).ok_or(LineError::Malformed)?;
         out.push(token)?;
-        first = is_open(token);
+        first = token.is_open();
         at = end;
     }
     Ok(out)

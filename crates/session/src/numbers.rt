@@ -12,10 +12,8 @@ pub fn number(word: &[u8]) -> Option<u64>
     }
     let mut n: u64 = 0;
     for b in word {
-        let Some(d) = (*b as char).to_digit(16) else {
-            return None;
-        };
-        n = n * 16 + d as u64;
+        let digit = char::from(*b).to_digit(16)?;
+        n = n * 16 + u64::from(digit);
     }
     Some(n)
 }

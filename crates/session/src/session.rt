@@ -15,7 +15,7 @@ ghost use Rattle.session.specs.Replies.{ok_text, refusal_text, reply_text};
 ghost use Rattle.session.specs.Sessions.{Answered, Does, InputAnswered, answer_text, call_buffer, cycle_text, log_text, replied, requested, session_state};
 
 use crate::forms::{Form, Pair, read_form};
-use crate::input::InputLine;
+use crate::input::{InputLine, TooLong};
 use crate::lexer::LineError;
 use crate::quadwords::{put_quadword, quadword};
 use crate::replies::{LoggedFault, Reply};
@@ -235,8 +235,8 @@ impl Session {
         ensures unchanged { OnErr result (self.new ≡ self.old) }
     {
         match line {
-            InputLine::Whole(bytes) => self.answer(heap, bytes.as_slice()),
-            InputLine::TooLong => Ok(Reply::Refused { number: MALFORMED }),
+            Ok(bytes) => self.answer(heap, bytes.as_slice()),
+            Err(TooLong) => Ok(Reply::Refused { number: MALFORMED }),
         }
     }
 

@@ -1,23 +1,15 @@
-use Rattle.std.proofs.Common.{◌≡◌, ◌∷◌, drop, sym}
+use Rattle.std.proofs.Common.{rules, ◌≡◌, ◌-◌, ◌∷◌, length, take, drop, sym}
 use Rattle.session.specs.Tokens.{lexemes, opening, word_of}
 use Rattle.session.specs.Forms.{name_bytes}
-use Rattle.session.proofs.Lines.{form_parsed, form_unserved}
+use Rattle.session.proofs.Arguments.{name_ahead}
+use Rattle.session.proofs.Lines.{form_parsed}
 use Rattle.session.proofs.forms.form_of.Goals as goal
-
-pub returns-then-not-is_served : goal.returns-then-not-is_served
-returns-then-not-is_served c =
-    let ts = c.args.tokens.now in
-    let e1 = c.if-not-opens_at.ensures.1 in
-    let e2 = c.in-Some.ensures.1 in
-    let e3 = c.in-Some-name_of.ensures in
-    let e : lexemes ts ≡ opening ∷ word_of (name_bytes c.in-Some-name_of.name) ∷ lexemes (drop 2 ts) = cc in
-    form_unserved (lexemes ts) (lexemes (drop 2 ts)) c.in-Some-name_of.name e (sym c.if-not-is_served.ensures)
 
 pub returns : goal.returns
 returns c =
     let ts = c.args.tokens.now in
-    let e1 = c.if-not-opens_at.ensures.1 in
-    let e2 = c.in-Some.ensures.1 in
-    let e3 = c.in-Some-name_of.ensures in
-    let e : lexemes ts ≡ opening ∷ word_of (name_bytes c.in-Some-name_of.name) ∷ lexemes (drop 2 ts) = cc in
-    form_parsed (lexemes ts) (lexemes (drop 2 ts)) c.in-Some-name_of.name c.arguments.result e (sym c.if-not-is_served.ensures) c.arguments.ensures
+    let rest = lexemes (take (length ts - 2) (drop 2 ts)) in
+    let e : lexemes ts ≡ opening ∷ word_of c.in-Open.word.now ∷ rest = search (rules, name_ahead) in
+    let n = c.in_ok-name.ensures in
+    let f : lexemes ts ≡ opening ∷ word_of (name_bytes c.in_ok-name.name) ∷ rest = cc in
+    form_parsed (lexemes ts) rest c.in_ok-name.name c.read_arguments.result f (sym c.if-not-is_served.ensures) c.read_arguments.ensures
