@@ -1,7 +1,6 @@
 pub mod RowTables
 pub mod LaneFacts
 pub mod LineBytes
-pub mod JoinedBytes
 pub mod BurstRuns
 pub mod ReadBursts
 pub mod WriteBursts

@@ -5,7 +5,7 @@ pub mod bursts;
 pub mod calls;
 pub mod decode;
 pub mod faults;
-mod line;
+pub mod line;
 pub mod log;
 pub mod look_aside;
 pub mod mark;
