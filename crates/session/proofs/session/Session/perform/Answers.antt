@@ -1,44 +1,26 @@
-use Rattle.std.proofs.Common.{[], map, Ok, sym, ap, ◌∙◌}
-use Rattle.memory.specs.Marked.{lines_marked}
-use Rattle.bridge.specs.State.{with_lines}
+use Rattle.std.proofs.Common.{map, Ok, sym, ap, ◌∙◌}
 use Rattle.session.specs.declared.forms.Name.TheVariants as N
 use Rattle.session.specs.Forms.{asked, pair_of}
-use Rattle.session.specs.Replies.{ok_text}
-use Rattle.session.specs.Sessions.{answer_text, replied, session_state}
 use Rattle.session.proofs.Performing.{made_in}
 use Rattle.session.proofs.session.Session.perform.Goals as goal
 
 pub returns-in-CpuStore : goal.returns-in-CpuStore
 returns-in-CpuStore c = record {
-  replied = made_in c.args.self.now c.cpu_store.new.self c.args.form.now _ (Ok c.done.result) (ap asked c.in-CpuStore.is) (record {
-    text = c.done.ensures.text ∙ ap (answer_text ok_text []) c.cpu_store.ensures.answer;
-    is = λ _. c.done.ensures.reply ∙ ap replied c.cpu_store.ensures.answer;
-    state = c.cpu_store.ensures.after;
-  });
+  replied = made_in c.args.self.now c.cpu_store.new.self c.args.form.now _ (Ok c.cpu_store.result) (ap asked c.in-CpuStore.is) c.cpu_store.ensures;
   unchanged = tt;
 }
 
 pub returns-in-CpuLoad : goal.returns-in-CpuLoad
 returns-in-CpuLoad c = record {
-  replied = made_in c.args.self.now c.cpu_load.new.self c.args.form.now _ (Ok c.valued.result) (ap asked c.in-CpuLoad.is) (record {
-    text = c.valued.ensures.text ∙ ap (answer_text ok_text []) c.cpu_load.ensures.answer;
-    is = λ _. c.valued.ensures.reply ∙ ap replied c.cpu_load.ensures.answer;
-    state = c.cpu_load.ensures.after;
-  });
+  replied = made_in c.args.self.now c.cpu_load.new.self c.args.form.now _ (Ok c.cpu_load.result) (ap asked c.in-CpuLoad.is) c.cpu_load.ensures;
   unchanged = tt;
 }
 
 pub returns-in-Mark : goal.returns-in-Mark
-returns-in-Mark c =
-    let s = c.args.self.now in
-    record {
-      replied = made_in s (record { bridge = c.mark.new.self }) c.args.form.now _ (Ok c.done-in-Mark.result) (ap asked c.in-Mark.is) (record {
-        text = c.done-in-Mark.ensures.text ∙ ap (answer_text ok_text []) c.mark.ensures.answer;
-        is = λ _. c.done-in-Mark.ensures.reply ∙ ap replied c.mark.ensures.answer;
-        state = c.mark.ensures.after ∙ ap (λ a. with_lines (lines_marked a c.in-Mark.line) (session_state s)) c.mark.ensures.answer;
-      });
-      unchanged = tt;
-    }
+returns-in-Mark c = record {
+  replied = made_in c.args.self.now c.mark.new.self c.args.form.now _ (Ok c.mark.result) (ap asked c.in-Mark.is) c.mark.ensures;
+  unchanged = tt;
+}
 
 pub returns-in-RegRead : goal.returns-in-RegRead
 returns-in-RegRead c = record {

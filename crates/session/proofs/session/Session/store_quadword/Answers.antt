@@ -3,7 +3,7 @@ use Rattle.bridge.specs.Calls.{Outcome, performed, processor, store}
 use Rattle.session.specs.Quadwords.{line_start}
 use Rattle.session.specs.Sessions.{session_state}
 use Rattle.session.proofs.QuadwordStores.{line_stored}
-use Rattle.session.proofs.session.Session.cpu_store.Goals as goal
+use Rattle.session.proofs.session.Session.store_quadword.Goals as goal
 
 pub returns : goal.returns
 returns c =
