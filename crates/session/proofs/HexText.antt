@@ -107,7 +107,7 @@ onto_hex (suc k) n acc lt = by_size (ltb n 16) refl (λ large. onto_large (suc k
     by_size true e front = onto_small (suc k) n acc (ltb-true n 16 e)
     by_size false e front = front (ltb-false n 16 e)
 
-hex_printed : (n : ℕ) → n < 2 ^ 64 → digits 16 false n ≡ hex n
+pub hex_printed : (n : ℕ) → n < 2 ^ 64 → digits 16 false n ≡ hex n
 unfolding digits
 hex_printed n lt = onto_hex 63 n [] (let l : n < 16 ^ 64 = omega arith in l) ∙ append-nil (hex n)
 

@@ -1,14 +1,33 @@
 -- Texts of replies, as they are written piece by piece.
-use Rattle.std.proofs.Common.{◌≡◌, ℕ, ◌+◌, ◌<◌, List, [], ◌∷◌, ◌++◌, map, length, get_or, take, codes, Some, Option, Result, sym, refl, subst, ap, ◌∙◌, append_assoc, append-nil}
+use Rattle.std.proofs.Common.{◌≡◌, ℕ, ◌+◌, ◌<◌, Bool, true, false, List, [], ◌∷◌, ◌++◌, map, length, get_or, take, codes, Some, Option, Result, sym, refl, subst, ap, ◌∙◌}
+pub use Rattle.std.proofs.Common.{append_assoc, append-nil}
 use Rattle.std.proofs.lemmas.List.{map_more}
-use Rattle.std.specs.Fmt.{DisplaysOnOk, WritesOnOk}
+use Rattle.std.specs.Fmt.{DisplaysOnOk, WritesOnOk, ◌++?◌}
 use Rattle.std.specs.declared.fmt.Error.{Error}
 use Rattle.std.specs.declared.fmt.Formatter.{Formatter}
-use Rattle.session.specs.Replies.{hex, ok_text, parts_text, spaced, spaced_numbers}
+use mir.Val.{bool_byte}
+use Rattle.bridge.specs.declared.log.Direction.{Direction}
+use Rattle.bridge.specs.declared.log.Direction.TheVariants.{Read, Write}
+use Rattle.bridge.specs.Bits.{flag}
+use Rattle.bridge.specs.Log.{direction_number}
+use Rattle.bridge.specs.Words.{direction_text}
+pub use Rattle.session.proofs.HexText.{hex_printed}
+use Rattle.session.specs.Replies.{direction_numbered, hex, ok_text, parts_text, spaced, spaced_numbers}
 
 -- what a format shows is what is written
 pub displayed : {W : Type 0} (took : W → List ℕ → W → Type 0) (f g : Formatter W) (r : Result (Unit {0}) Error) (shown : Option (List ℕ)) (text : List ℕ) → shown ≡ Some text → DisplaysOnOk took f r shown g → WritesOnOk took f r text g
 displayed took f g r shown text e h = subst (λ o. DisplaysOnOk took f r o g) e h
+
+pub append_somes : (a b : List ℕ) → (Some a ++? Some b) ≡ Some (a ++ b)
+append_somes a b = refl
+
+pub flag_byte : (b : Bool) → bool_byte b ≡ flag b
+flag_byte true = refl
+flag_byte false = refl
+
+pub direction_back : (d : Direction) → direction_text (direction_numbered (direction_number d)) ≡ direction_text d
+direction_back Read = refl
+direction_back Write = refl
 
 -- parts, each behind a space
 spaced_push : (parts : List (List ℕ)) (part : List ℕ) → spaced (parts ++ part ∷ []) ≡ spaced parts ++ (32 ∷ part)
@@ -24,3 +43,6 @@ spaced_parts (part ∷ parts) = ap (λ l. 32 ∷ l) (append_assoc part (spaced p
 
 pub longwords_text : (ns : List ℕ) → codes "(ok" ++ (spaced_numbers ns ++ codes ")") ≡ ok_text ns
 longwords_text ns = ap (λ l. codes "(ok" ++ l) (spaced_parts (map hex ns))
+
+-- what the text that a format writes needs
+pub ruleset printed = (displayed, append_somes, hex_printed, append_assoc, flag_byte, direction_back)

@@ -1,4 +1,6 @@
 // The replies of a session, and how they are printed.
+#![tactic(auto, using(crate::proofs::ReplyTexts::printed))]
+
 ghost use Rattle.std.specs.Prelude.{◌≡◌, Some};
 ghost use Rattle.std.specs.Fmt.{WritesOnOk};
 ghost use Rattle.bridge.specs.Log.{reading_values};
