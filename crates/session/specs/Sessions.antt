@@ -1,6 +1,5 @@
 -- A session: its bridge, and what each form answers and leaves.
 use Rattle.std.specs.Prelude.{◌≡◌, ℕ, min, Bool, true, false, cond, List, [], ◌∷◌, map, length, replicate, Ok, Err, Result, ◌==◌, slice_index}
-use Prim.Native.String.{String}
 use Rattle.memory.specs.Answers.{Answer, success, refusal}
 use Rattle.memory.specs.Layers.{lines_laid, lines_under, marks_of}
 use Rattle.memory.specs.Layouts.{from_zero}
@@ -8,8 +7,7 @@ use Rattle.memory.specs.Marked.{lines_marked, mark_answer}
 use Rattle.bridge.specs.declared.decode.Space.{Space}
 use Rattle.bridge.specs.declared.decode.Space.TheVariants.{SparseMemory, DenseMemory, SparseIo, Configuration}
 use Rattle.bridge.specs.Bursts.{Burst, card_read, card_write}
-use Rattle.bridge.specs.Calls.{Call, Outcome, Request, card, decode, log_clear, log_read, performed, processor, register_read, register_write}
-use Rattle.bridge.specs.Runs.{lent_buffer}
+use Rattle.bridge.specs.Calls.{Outcome, Request, card, decode, log_clear, log_read, performed, processor, register_read, register_write}
 use Rattle.bridge.specs.State.{State, state_of, with_lines}
 use Rattle.bridge.specs.Words.{space_text}
 use Rattle.session.specs.declared.forms.Name.{Name}
@@ -22,7 +20,7 @@ use Rattle.session.specs.declared.session.Session.{Session}
 use Rattle.session.specs.Forms.{Asked, Spells}
 use Rattle.session.specs.InputLines.{Cut, kept, too_long}
 use Rattle.session.specs.Quadwords.{cpu_load, cpu_store, outcome_of}
-use Rattle.session.specs.Replies.{hex, log_text, ok_text, parenthesized, read_labels, refusal_text, reply_answer, reply_text, write_labels}
+use Rattle.session.specs.Replies.{Labels, hex, log_text, ok_text, parenthesized, read_labels, refusal_text, reply_answer, reply_text, write_labels}
 
 abbrev pub session_state : Session → State
 session_state s = state_of (lines_under (lines_laid (λ _. from_zero))) s.bridge
@@ -40,11 +38,6 @@ served s burst = performed (session_state s) (card burst)
 -- the burst of a card-read: its buffer has a zero longword for each that is asked for, up to 64
 abbrev pub read_burst : ℕ → ℕ → Burst
 read_burst pci count = card_read pci count (replicate (min count 64) 0)
-
--- the buffer of a call: only a card read has one
-abbrev pub call_buffer : Call → List ℕ
-call_buffer (processor request) = []
-call_buffer (card burst) = lent_buffer burst
 
 -- the burst of a card-write: the longwords of its pairs, under the numbers that stand beside them
 abbrev pub write_burst : ℕ → List (ℕ × ℕ) → Burst
@@ -64,7 +57,7 @@ form_outcome s (N.CardRead, (pci, count)) = served s (read_burst pci count)
 form_outcome s (N.CardWrite, (pci, pairs)) = served s (write_burst pci pairs)
 
 -- what is printed of an answer, given the text of its values and the labels of what a refusal returns
-abbrev pub answer_text : (List ℕ → List ℕ) → List String → Answer → List ℕ
+abbrev pub answer_text : (List ℕ → List ℕ) → Labels → Answer → List ℕ
 answer_text text labels (success values) = text values
 answer_text text labels (refusal number values) = refusal_text labels number values
 

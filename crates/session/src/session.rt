@@ -3,14 +3,14 @@ ghost use Rattle.std.specs.Prelude.{◌≡◌, min, [], ◌∷◌, map, length, 
 ghost use Rattle.memory.specs.Layouts.{flat};
 ghost use Rattle.memory.specs.Answers.{answered, no_values};
 ghost use Rattle.bridge.specs.Calls.{load, store};
-ghost use Rattle.bridge.specs.Performed.{AnswersRequest, answer_of, call_of, request_of};
+ghost use Rattle.bridge.specs.Performed.{AnswersRequest, answer_of, request_of};
 ghost use Rattle.bridge.specs.Processor.{access_cause};
 ghost use Rattle.bridge.specs.State.{new_state};
 ghost use Rattle.session.specs.declared.forms.Name.TheVariants as N;
 ghost use Rattle.session.specs.Forms.{asked, pair_of};
 ghost use Rattle.session.specs.InputLines.{line_given};
 ghost use Rattle.session.specs.Quadwords.{cpu_load, cpu_store};
-ghost use Rattle.session.specs.Sessions.{Answered, Does, InputAnswered, call_buffer, reply_of, requested, session_state};
+ghost use Rattle.session.specs.Sessions.{Answered, Does, InputAnswered, reply_of, requested, session_state};
 
 use crate::forms::{Form, Pair, read_form};
 use crate::input::InputLine;
@@ -199,10 +199,16 @@ impl Session {
         let CallAnswer::CardRead(result) = self.bridge.perform(&mut call) else {
             unreachable()
         };
-        match result {
-            Ok(()) => Ok(Ok(Reply::Longwords(buffer_of(heap, call)))),
-            Err(refusal) => Ok(Err(refusal.into())),
+        if let Err(refusal) = result {
+            return Ok(Err(refusal.into()));
         }
+        let Call::Card(burst) = call else {
+            unreachable()
+        };
+        let Burst::CardRead { buffer, .. } = burst else {
+            unreachable()
+        };
+        Ok(Ok(Reply::Longwords(buffer)))
     }
 
     // Serves a card's write.
@@ -283,19 +289,6 @@ impl Session {
     }
 }
 
-// The buffer of a call: only a card read has one.
-fn buffer_of(heap: Global, call: Call) -> Vec<u32>
-    ensures { result.items ≡ call_buffer (call_of call) }
-{
-    match call {
-        Call::Processor(_) => Vec::new(heap),
-        Call::Card(burst) => match burst {
-            Burst::CardRead { buffer, .. } => buffer,
-            Burst::CardWrite { .. } => Vec::new(heap),
-        },
-    }
-}
-
 // The number of a pair as byte enables. Over 255 it is 255: a burst with a number over 15 is refused, whichever it is.
 fn byte_enables(number: u64) -> u8
     ensures { result ≡ min number 255 }
@@ -308,11 +301,10 @@ fn split_pairs(heap: Global, pairs: &[Pair]) -> Result<(Vec<u32>, Vec<u8>), Allo
     ensures words { IfOk result (λ v. v.0.items ≡ map (λ (p : Pair). p.longword) pairs.now) }
     ensures enables { IfOk result (λ v. v.1.items ≡ map (λ (p : Pair). min p.enables 255) pairs.now) }
 {
-    let mut words = Vec::new(heap);
-    let mut enables = Vec::new(heap);
-    for pair in pairs {
-        words.push(pair.longword)?;
-        enables.push(byte_enables(pair.enables))?;
-    }
+    let words = pairs.iter().map(|pair| pair.longword).collect(heap)?;
+    let enables = pairs
+        .iter()
+        .map(|pair| byte_enables(pair.enables))
+        .collect(heap)?;
     Ok((words, enables))
 }
