@@ -31,6 +31,9 @@ const BYTES: usize = 0x1_0000;
 // The longwords of the largest card read.
 const MOST_LONGWORDS: u64 = 64;
 
+// What a form comes to: the reply of its success, or why it is refused.
+type FormResult = Result<Reply, FormRefusal>;
+
 #[derive(Drop)]
 pub struct Session {
     bridge: Bridge<Marks<Flat>>,
@@ -112,20 +115,20 @@ impl Session {
         self.store_line(start, line)
     }
 
-    fn cpu_load(&mut self, address: u64) -> Result<Reply, FormRefusal>
+    fn cpu_load(&mut self, address: u64) -> FormResult
         ensures { Does self.old (N.CpuLoad, address) (reply_of result) self.new }
     {
         Ok(Reply::Value(self.load_quadword(address)?))
     }
 
-    fn cpu_store(&mut self, address: u64, value: u64) -> Result<Reply, FormRefusal>
+    fn cpu_store(&mut self, address: u64, value: u64) -> FormResult
         ensures { Does self.old (N.CpuStore, (address, value)) (reply_of result) self.new }
     {
         self.store_quadword(address, value)?;
         Ok(Reply::Done)
     }
 
-    fn mark(&mut self, line: u64) -> Result<Reply, FormRefusal>
+    fn mark(&mut self, line: u64) -> FormResult
         ensures { Does self.old (N.Mark, line) (reply_of result) self.new }
     {
         self.bridge.mark(line)?;
@@ -133,7 +136,7 @@ impl Session {
     }
 
     // Reads a register.
-    fn reg_read(&mut self, register: u64) -> Result<Reply, FormRefusal>
+    fn reg_read(&mut self, register: u64) -> FormResult
         ensures { Does self.old (N.RegRead, register) (reply_of result) self.new }
     {
         let CallAnswer::RegisterRead(result) = self.request(Request::RegisterRead { n: register })
@@ -144,7 +147,7 @@ impl Session {
     }
 
     // Writes a register.
-    fn reg_write(&mut self, register: u64, value: u32) -> Result<Reply, FormRefusal>
+    fn reg_write(&mut self, register: u64, value: u32) -> FormResult
         ensures { Does self.old (N.RegWrite, (register, value)) (reply_of result) self.new }
     {
         let request = Request::RegisterWrite { n: register, value };
@@ -156,7 +159,7 @@ impl Session {
     }
 
     // Decodes a processor address.
-    fn pci(&mut self, address: u64) -> Result<Reply, FormRefusal>
+    fn pci(&mut self, address: u64) -> FormResult
         ensures { Does self.old (N.Pci, address) (reply_of result) self.new }
     {
         let CallAnswer::Decode(result) = self.request(Request::Decode { cpu: address }) else {
@@ -184,12 +187,7 @@ impl Session {
     }
 
     // Serves a card's read, into a buffer that the reply keeps.
-    fn card_read(
-        &mut self,
-        heap: Global,
-        pci: u32,
-        count: u64,
-    ) -> Result<Result<Reply, FormRefusal>, AllocError>
+    fn card_read(&mut self, heap: Global, pci: u32, count: u64) -> Result<FormResult, AllocError>
         ensures replied { IfOk result (λ outcome. Does self.old (N.CardRead, (pci, count)) (reply_of outcome) self.new) }
         ensures unchanged { OnErr result (self.new ≡ self.old) }
     {
@@ -217,7 +215,7 @@ impl Session {
         heap: Global,
         pci: u32,
         pairs: &[Pair],
-    ) -> Result<Result<Reply, FormRefusal>, AllocError>
+    ) -> Result<FormResult, AllocError>
         ensures replied { IfOk result (λ outcome. Does self.old (N.CardWrite, (pci, map pair_of pairs.now)) (reply_of outcome) self.new) }
         ensures unchanged { OnErr result (self.new ≡ self.old) }
     {
@@ -238,11 +236,7 @@ impl Session {
     }
 
     // Does what a form asks for. All memory that is needed is had before the bridge is called.
-    fn perform(
-        &mut self,
-        heap: Global,
-        form: &Form,
-    ) -> Result<Result<Reply, FormRefusal>, AllocError>
+    fn perform(&mut self, heap: Global, form: &Form) -> Result<FormResult, AllocError>
         ensures replied { IfOk result (λ outcome. Does self.old (asked form.now) (reply_of outcome) self.new) }
         ensures unchanged { OnErr result (self.new ≡ self.old) }
     {
