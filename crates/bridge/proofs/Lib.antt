@@ -2,7 +2,6 @@ pub mod BitFields
 pub mod RowTables
 pub mod LaneFacts
 pub mod LineBytes
-pub mod JoinedBytes
 pub mod BurstRuns
 pub mod ReadBursts
 pub mod WriteBursts

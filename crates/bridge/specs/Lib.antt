@@ -17,3 +17,4 @@ pub mod Performed
 pub mod Pages
 pub mod Isolation
 pub mod Steps
+pub mod Words

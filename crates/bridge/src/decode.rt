@@ -1,15 +1,17 @@
 // The decoding of processor addresses that lead to the PCI bus.
-ghost use Rattle.std.specs.Prelude.{◌≡◌, ◌^◌, ◌<◌, ◌≤◌, if◌then◌else◌, Ok, Err};
+ghost use Rattle.std.specs.Prelude.{◌≡◌, ◌^◌, ◌<◌, ◌≤◌, if◌then◌else◌, Some, Ok, Err};
 ghost use Rattle.memory.specs.Answers.{answered};
 ghost use Rattle.bridge.specs.Bits.{bits, in_range};
 ghost use Rattle.bridge.specs.Calls.{decode, performed, processor};
 ghost use Rattle.bridge.specs.Processor.{configuration_0_address, configuration_1_address, cycle_values, decode_answer, decode_cause, decoded, decoded_configuration, decoded_dense, device_bit, lanes_allowed, sparse_io_address, sparse_lanes, sparse_memory_address, unless_lanes};
 ghost use Rattle.bridge.specs.State.{state_of};
+ghost use Rattle.bridge.specs.Words.{space_text};
 
 use crate::Bridge;
 use crate::registers::Registers;
 use memory::Memory;
 use memory::refusals::Refusal;
+use std::fmt;
 
 // The spaces that the processor reaches on the PCI bus.
 #[derive(Clone, Copy, Debug, PartialEq)]
@@ -18,6 +20,19 @@ pub enum Space {
     DenseMemory,
     SparseIo,
     Configuration,
+}
+
+impl fmt::Display for Space {
+    ghost output = { λ space. Some (space_text space) };
+
+    fn fmt<W: fmt::Write>(&self, f: &mut fmt::Formatter<W>) -> fmt::Result {
+        f.write_str(match self {
+            Space::SparseMemory => "mem",
+            Space::DenseMemory => "dense",
+            Space::SparseIo => "io",
+            Space::Configuration => "config",
+        })
+    }
 }
 
 // A cycle on the PCI bus: its space, its address, and its enabled lanes, bit j for lane j.

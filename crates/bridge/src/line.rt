@@ -10,20 +10,15 @@ pub(crate) fn longword(line: &[u8; 32], offset: usize) -> u32
     requires { offset + 4 ≤ 32 }
     ensures { result ≡ longword_at line.now offset }
 {
-    u32::from_le_bytes([
-        line[offset],
-        line[offset + 1],
-        line[offset + 2],
-        line[offset + 3],
-    ])
+    let bytes: [u8; 4] = line[offset..offset + 4].try_into().unwrap();
+    u32::from_le_bytes(bytes)
 }
 
 // The quadword at an offset.
-pub(crate) fn quadword(line: &[u8; 32], offset: usize) -> u64
+pub fn quadword(line: &[u8; 32], offset: usize) -> u64
     requires { offset + 8 ≤ 32 }
     ensures { result ≡ quadword_at line.now offset }
 {
-    let low = longword(line, offset);
-    let high = longword(line, offset + 4);
-    u64::from(high) * 0x1_0000_0000 + u64::from(low)
+    let bytes: [u8; 8] = line[offset..offset + 8].try_into().unwrap();
+    u64::from_le_bytes(bytes)
 }

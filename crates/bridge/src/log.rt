@@ -1,19 +1,32 @@
 // The log of faults: the first one, and whether others came after it.
-ghost use Rattle.std.specs.Prelude.{◌≡◌, []};
+ghost use Rattle.std.specs.Prelude.{◌≡◌, [], Some};
 ghost use Rattle.memory.specs.Answers.{success};
 ghost use Rattle.bridge.specs.Calls.{log_clear, log_read, performed, processor};
 ghost use Rattle.bridge.specs.Log.{empty_log, log_served, logged, reading_values};
 ghost use Rattle.bridge.specs.State.{state_of};
+ghost use Rattle.bridge.specs.Words.{direction_text};
 
 use crate::Bridge;
 use crate::faults::BurstFault;
 use memory::Memory;
+use std::fmt;
 
 // What a card asked for.
 #[derive(Clone, Copy, Debug, PartialEq)]
 pub enum Direction {
     Read,
     Write,
+}
+
+impl fmt::Display for Direction {
+    ghost output = { λ direction. Some (direction_text direction) };
+
+    fn fmt<W: fmt::Write>(&self, f: &mut fmt::Formatter<W>) -> fmt::Result {
+        f.write_str(match self {
+            Direction::Read => "read",
+            Direction::Write => "write",
+        })
+    }
 }
 
 // A fault, with what the card asked for and the PCI address of the burst's first longword in the line.

@@ -1,9 +1,10 @@
 -- Byte enables over 255 are taken as 255: a burst with an enable over 15 is refused, whichever it is.
-use Rattle.std.proofs.Common.{◌≡◌, ℕ, suc, ◌≤◌, min, Bool, true, false, cond, ◌||◌, ltb, List, [], ◌∷◌, map, length, take, Some, Result, sym, refl, ap, ◌∙◌, arith, ltb-false}
+use Rattle.std.proofs.Common.{◌≡◌, ℕ, suc, ◌≤◌, min, Bool, true, false, cond, ◌||◌, ltb, List, [], ◌∷◌, map, length, take, Some, Err, Result, sym, refl, ap, ◌∙◌, arith, ltb-false}
 use Rattle.std.proofs.lemmas.List.{take_all}
 use Rattle.std.proofs.lemmas.Bool.Decides.{nat_tests}
 use Rattle.memory.specs.Answers.{refusal}
 use Rattle.bridge.specs.declared.bursts.BurstRefusal.{BurstRefusal}
+use Rattle.bridge.specs.declared.bursts.BurstRefusal.TheVariants.{Alignment, Bounds, Ended, Unclaimed}
 use Rattle.bridge.specs.declared.bursts.WriteCounts.{WriteCounts}
 use Rattle.bridge.specs.declared.bursts.WriteEnd.{WriteEnd}
 use Rattle.bridge.specs.BurstAnswers.{write_answered}
@@ -13,10 +14,12 @@ use Rattle.bridge.specs.State.{State}
 use Rattle.session.specs.declared.forms.Pair.{Pair}
 use Rattle.session.specs.Forms.{pair_of}
 use Rattle.session.specs.declared.forms.Name.TheVariants as N
+use Rattle.session.specs.declared.replies.FormRefusal.TheVariants as F
 use Rattle.session.specs.declared.replies.Reply.{Reply}
+use Rattle.session.specs.declared.replies.Reply.TheVariants.{Refused}
 use Rattle.session.specs.declared.session.Session.{Session}
-use Rattle.session.specs.Replies.{ok_text, reply_text, write_labels}
-use Rattle.session.specs.Sessions.{Does, answer_text, served, session_state, write_burst, write_text}
+use Rattle.session.specs.Replies.{ok_text, reply_answer, reply_text, write_labels}
+use Rattle.session.specs.Sessions.{Does, answer_text, is_kind, served, session_state, write_burst, write_text}
 
 any_true : (a b c : Bool) → c ≡ true → (a || (b || c)) ≡ true
 any_true true b c e = refl
@@ -89,12 +92,20 @@ same_write s pci pairs words enables w e =
     ∙ performed_narrowed s pci (map (λ (p : Pair). p.longword) pairs) pairs (wide_enable (written pairs)) refl
     ∙ ap (λ b. performed s (card b)) (pairs_apart pci pairs)
 
+pub refused_text : (e : BurstRefusal WriteEnd) → reply_text (Refused (F.Write e)) ≡ answer_text ok_text write_labels (write_answered (Err e))
+refused_text Bounds = refl
+refused_text Alignment = refl
+refused_text Unclaimed = refl
+refused_text (Ended e) = refl
+
 -- the code's answer and state are what a card-write does
-pub write_does : (s t : Session) (pci : ℕ) (pairs : List Pair) (words enables : List ℕ) (r x : Result WriteCounts (BurstRefusal WriteEnd)) (reply : Reply) → words ≡ map (λ (p : Pair). p.longword) pairs → enables ≡ map (λ (p : Pair). min p.enables 255) pairs → write_answered r ≡ (served s (card_write pci (length pairs) words enables)).answer → session_state t ≡ (served s (card_write pci (length pairs) words enables)).state → r ≡ x → reply_text reply ≡ answer_text ok_text write_labels (write_answered x) → Does s (N.CardWrite, (pci, map pair_of pairs)) reply t
-write_does s t pci pairs words enables r x reply w e a after is text =
+pub write_does : (s t : Session) (pci : ℕ) (pairs : List Pair) (words enables : List ℕ) (r x : Result WriteCounts (BurstRefusal WriteEnd)) (reply : Reply) → words ≡ map (λ (p : Pair). p.longword) pairs → enables ≡ map (λ (p : Pair). min p.enables 255) pairs → write_answered r ≡ (served s (card_write pci (length pairs) words enables)).answer → session_state t ≡ (served s (card_write pci (length pairs) words enables)).state → r ≡ x → is_kind N.CardWrite reply ≡ true → reply_answer reply ≡ write_answered x → reply_text reply ≡ answer_text ok_text write_labels (write_answered x) → Does s (N.CardWrite, (pci, map pair_of pairs)) reply t
+write_does s t pci pairs words enables r x reply w e a after is kind answer text =
     let same = same_write (session_state s) pci pairs words enables w e in
+    let got = ap write_answered (sym is) ∙ a in
     record {
-      text = text ∙ ap (λ y. answer_text ok_text write_labels (write_answered y)) (sym is) ∙ ap (answer_text ok_text write_labels) a ∙ ap write_text same;
-      is = λ other. absurd other;
+      kind = kind;
+      answer = answer ∙ got ∙ ap (λ (o : Outcome). o.answer) same;
+      text = text ∙ ap (answer_text ok_text write_labels) got ∙ ap write_text same;
       state = after ∙ ap (λ (o : Outcome). o.state) same;
     }

@@ -1,14 +1,11 @@
 -- cpu-load and cpu-store carry a quadword: eight bytes, low end first, at a multiple of 8, else 11.
-use Rattle.std.specs.Prelude.{ℕ, ◌*◌, ◌/◌, ◌%◌, cond, List, [], ◌∷◌, take, drop, ◌==◌}
+use Rattle.std.specs.Prelude.{ℕ, ◌*◌, ◌/◌, ◌%◌, cond, List, [], ◌∷◌, ◌==◌}
 use borrow.Rule.Slice.PartMut.{put_mid}
 use Rattle.memory.specs.Answers.{Answer, success, refusal}
-use Rattle.memory.specs.Bytes.{joined, low_bytes}
+use Rattle.memory.specs.Bytes.{low_bytes}
+use Rattle.bridge.specs.Longwords.{quadword_at}
 use Rattle.bridge.specs.State.{State}
 use Rattle.bridge.specs.Calls.{Outcome, load, performed, processor, store}
-
--- the quadword at an offset in a line
-abbrev pub quadword_at : ℕ → List ℕ → ℕ
-quadword_at offset line = joined (take 8 (drop offset line))
 
 -- the line with another quadword there
 abbrev pub with_quadword : ℕ → ℕ → List ℕ → List ℕ
@@ -23,7 +20,7 @@ abbrev pub line_load : State → ℕ → Answer
 line_load s address = (performed s (processor (load (line_start address)))).answer
 
 abbrev pub quadword_from : ℕ → Answer → Answer
-quadword_from offset (success line) = success (quadword_at offset line ∷ [])
+quadword_from offset (success line) = success (quadword_at line offset ∷ [])
 quadword_from offset (refusal number values) = refusal number values
 
 -- cpu-load: the line is loaded and the quadword taken out, refused as the load is

@@ -1,27 +1,26 @@
 -- A session: its bridge, and what each form answers and leaves.
-use Rattle.std.specs.Prelude.{◌≡◌, ℕ, min, cond, List, [], ◌∷◌, map, length, replicate, ◌==◌, slice_index}
-use Prim.Native.String.{String}
+use Rattle.std.specs.Prelude.{◌≡◌, ℕ, min, Bool, true, false, cond, List, [], ◌∷◌, map, length, replicate, Ok, Err, Result, ◌==◌, slice_index}
 use Rattle.memory.specs.Answers.{Answer, success, refusal}
 use Rattle.memory.specs.Layers.{lines_laid, lines_under, marks_of}
 use Rattle.memory.specs.Layouts.{from_zero}
 use Rattle.memory.specs.Marked.{lines_marked, mark_answer}
 use Rattle.bridge.specs.declared.decode.Space.{Space}
 use Rattle.bridge.specs.declared.decode.Space.TheVariants.{SparseMemory, DenseMemory, SparseIo, Configuration}
-use Rattle.bridge.specs.declared.log.Direction.{Direction}
-use Rattle.bridge.specs.declared.log.Direction.TheVariants.{Read, Write}
 use Rattle.bridge.specs.Bursts.{Burst, card_read, card_write}
-use Rattle.bridge.specs.Calls.{Call, Outcome, Request, card, decode, log_clear, log_read, performed, processor, register_read, register_write}
-use Rattle.bridge.specs.Runs.{lent_buffer}
+use Rattle.bridge.specs.Calls.{Outcome, Request, card, decode, log_clear, log_read, performed, processor, register_read, register_write}
 use Rattle.bridge.specs.State.{State, state_of, with_lines}
+use Rattle.bridge.specs.Words.{space_text}
 use Rattle.session.specs.declared.forms.Name.{Name}
 use Rattle.session.specs.declared.forms.Name.TheVariants as N
 use Rattle.session.specs.declared.replies.Reply.{Reply}
-use Rattle.session.specs.declared.replies.Reply.TheVariants.{Done, Value, Refused}
+use Rattle.session.specs.declared.replies.FormRefusal.{FormRefusal}
+use Rattle.session.specs.declared.replies.FormRefusal.TheVariants as F
+use Rattle.session.specs.declared.replies.Reply.TheVariants.{Done, Value, Decoded, Log, Longwords, Counts, Refused}
 use Rattle.session.specs.declared.session.Session.{Session}
 use Rattle.session.specs.Forms.{Asked, Spells}
 use Rattle.session.specs.InputLines.{Cut, kept, too_long}
 use Rattle.session.specs.Quadwords.{cpu_load, cpu_store, outcome_of}
-use Rattle.session.specs.Replies.{fault_text, hex, ok_text, parenthesized, read_labels, refusal_text, reply_text, space_text, write_labels}
+use Rattle.session.specs.Replies.{Labels, hex, log_text, ok_text, parenthesized, read_labels, refusal_text, reply_answer, reply_text, write_labels}
 
 abbrev pub session_state : Session → State
 session_state s = state_of (lines_under (lines_laid (λ _. from_zero))) s.bridge
@@ -39,11 +38,6 @@ served s burst = performed (session_state s) (card burst)
 -- the burst of a card-read: its buffer has a zero longword for each that is asked for, up to 64
 abbrev pub read_burst : ℕ → ℕ → Burst
 read_burst pci count = card_read pci count (replicate (min count 64) 0)
-
--- the buffer of a call: only a card read has one
-abbrev pub call_buffer : Call → List ℕ
-call_buffer (processor request) = []
-call_buffer (card burst) = lent_buffer burst
 
 -- the burst of a card-write: the longwords of its pairs, under the numbers that stand beside them
 abbrev pub write_burst : ℕ → List (ℕ × ℕ) → Burst
@@ -63,7 +57,7 @@ form_outcome s (N.CardRead, (pci, count)) = served s (read_burst pci count)
 form_outcome s (N.CardWrite, (pci, pairs)) = served s (write_burst pci pairs)
 
 -- what is printed of an answer, given the text of its values and the labels of what a refusal returns
-abbrev pub answer_text : (List ℕ → List ℕ) → List String → Answer → List ℕ
+abbrev pub answer_text : (List ℕ → List ℕ) → Labels → Answer → List ℕ
 answer_text text labels (success values) = text values
 answer_text text labels (refusal number values) = refusal_text labels number values
 
@@ -73,14 +67,6 @@ space_numbered n = cond (n == 0) SparseMemory (cond (n == 1) DenseMemory (cond (
 
 abbrev pub cycle_text : List ℕ → List ℕ
 cycle_text values = parenthesized "ok" (space_text (space_numbered (slice_index values 0)) ∷ hex (slice_index values 1) ∷ hex (slice_index values 2) ∷ [])
-
--- a log: number, direction, PCI address, line and 1 where others were missed, or no values where it is empty
-abbrev pub direction_numbered : ℕ → Direction
-direction_numbered n = cond (n == 0) Read Write
-
-abbrev pub log_text : List ℕ → List ℕ
-log_text [] = parenthesized "log" []
-log_text (number ∷ values) = fault_text (record { number = number; direction = direction_numbered (slice_index values 0); pci = slice_index values 1; line = slice_index values 2; missed = (slice_index values 3 == 1) })
 
 -- a card read that succeeds prints its buffer, and any other form the values of its answer; a refusal of a card's burst
 -- prints what it returns, and any other its number alone
@@ -133,38 +119,51 @@ form_state s (N.LogClear, x) = (form_outcome s (N.LogClear, x)).state
 form_state s (N.CardRead, x) = (form_outcome s (N.CardRead, x)).state
 form_state s (N.CardWrite, x) = (form_outcome s (N.CardWrite, x)).state
 
--- an answer as a reply, of a form that returns one value at most, and whose refusals return none
-abbrev pub replied : Answer → Reply
-replied (success []) = Done
-replied (success (value ∷ values)) = Value value
-replied (refusal number values) = Refused number
+-- what a form came to, as a reply
+abbrev pub reply_of : Result Reply FormRefusal → Reply
+reply_of (Ok reply) = reply
+reply_of (Err e) = Refused e
 
--- the forms of that kind
-abbrev pub ReturnsOneValue : Name → Type 0
-ReturnsOneValue N.CpuStore = Unit {0}
-ReturnsOneValue N.CpuLoad = Unit {0}
-ReturnsOneValue N.Mark = Unit {0}
-ReturnsOneValue N.RegRead = Unit {0}
-ReturnsOneValue N.RegWrite = Unit {0}
-ReturnsOneValue N.Pci = ⊥
-ReturnsOneValue N.Log = ⊥
-ReturnsOneValue N.LogClear = Unit {0}
-ReturnsOneValue N.CardRead = ⊥
-ReturnsOneValue N.CardWrite = ⊥
+-- which refusals a form of each name has
+abbrev pub refuses_by : Name → FormRefusal → Bool
+refuses_by N.CpuStore (F.Access e) = true
+refuses_by N.CpuLoad (F.Access e) = true
+refuses_by N.Mark (F.Mark e) = true
+refuses_by N.RegRead (F.Register e) = true
+refuses_by N.RegWrite (F.Register e) = true
+refuses_by N.Pci (F.Decode e) = true
+refuses_by N.CardRead (F.Read e) = true
+refuses_by N.CardWrite (F.Write e) = true
+refuses_by name e = false
 
--- what a form does: its reply prints that, and leaves that state; where it returns one value at most, its answer is its reply
+-- whether a reply is of the kind that a form of each name has: one of its refusals, or what it returns
+abbrev pub is_kind : Name → Reply → Bool
+is_kind name (Refused e) = refuses_by name e
+is_kind N.CpuStore Done = true
+is_kind N.CpuLoad (Value n) = true
+is_kind N.Mark Done = true
+is_kind N.RegRead (Value n) = true
+is_kind N.RegWrite Done = true
+is_kind N.Pci (Decoded c) = true
+is_kind N.Log (Log reading) = true
+is_kind N.LogClear Done = true
+is_kind N.CardRead (Longwords words) = true
+is_kind N.CardWrite (Counts c) = true
+is_kind name reply = false
+
+-- what a form does: its reply is of its kind, has its answer and prints its text, and that state is left
 pub record Does (before : Session) (asked : Asked) (reply : Reply) (after : Session) : Type 0 where
+  pub kind : is_kind asked.0 reply ≡ true
+  pub answer : reply_answer reply ≡ form_answer before asked
   pub text : reply_text reply ≡ form_text before asked
-  pub is : ReturnsOneValue asked.0 → reply ≡ replied (form_answer before asked)
   pub state : session_state after ≡ form_state before asked
 
 -- a line is answered as the form that it spells, or with 18, and nothing changes then
 pub record Answered (before : Session) (line : List ℕ) (reply : Reply) (after : Session) : Type 0 where
-  pub by_form : (asked : Asked) → Spells line asked → (reply ≡ replied (form_answer before asked)) × (session_state after ≡ form_state before asked)
-  pub text : (asked : Asked) → Spells line asked → reply_text reply ≡ form_text before asked
-  pub malformed : ((asked : Asked) → Spells line asked → ⊥) → (reply ≡ Refused 18) × (after ≡ before)
+  pub by_form : (asked : Asked) → Spells line asked → Does before asked reply after
+  pub malformed : ((asked : Asked) → Spells line asked → ⊥) → (reply ≡ Refused F.Malformed) × (after ≡ before)
 
 -- a line of the input is answered by its bytes; one that is too long is answered 18, and nothing changes
 abbrev pub InputAnswered : Session → Cut → Reply → Session → Type 0
 InputAnswered before (kept bytes) reply after = Answered before bytes reply after
-InputAnswered before too_long reply after = (reply ≡ Refused 18) × (after ≡ before)
+InputAnswered before too_long reply after = (reply ≡ Refused F.Malformed) × (after ≡ before)

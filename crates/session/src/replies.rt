@@ -1,22 +1,31 @@
 // The replies of a session, and how they are printed.
-ghost use Rattle.std.specs.Prelude.{◌≡◌, ◌<◌, Some};
-ghost use Rattle.session.specs.Replies.{NoLeadingZero, ReadsBack, digit, direction_text, fault_text, hex, read_end_text, read_refusal_text, reply_text, space_text, spaced_numbers, write_end_text, write_refusal_text};
+#![tactic(auto, using(crate::proofs::ReplyTexts::printed))]
+
+ghost use Rattle.std.specs.Prelude.{◌≡◌, Some};
 ghost use Rattle.std.specs.Fmt.{WritesOnOk};
+ghost use Rattle.bridge.specs.Log.{reading_values};
+ghost use Rattle.session.specs.Replies.{Labels, NoLeadingZero, ReadsBack, burst_labels, cause_text, form_cause, form_labels, log_text, read_labels, reply_text, returned_text, spaced_numbers, write_labels};
+ghost use Rattle.session.specs.declared.replies.FormRefusal.TheVariants as F;
 
 use bridge::bursts::{BurstRefusal, ReadEnd, ReadRefusal, WriteCounts, WriteEnd, WriteRefusal};
-use bridge::decode::{Cycle, Space};
-use bridge::log::Direction;
+use bridge::decode::{Cycle, DecodeRefusal};
+use bridge::log::{FaultRecord, LogReading};
+use bridge::processor::AccessRefusal;
+use bridge::registers::RegisterRefusal;
+use memory::marks::MarkRefusal;
 use memory::refusals::Refusal;
 use std::fmt;
 
-// The fault that a filled log holds, and whether others came after it.
+// Why a form is refused: its line spells none, or the bridge or the memory refuses what it asks for.
 #[derive(Clone, Copy)]
-pub struct LoggedFault {
-    pub number: u64,
-    pub direction: Direction,
-    pub pci: u32,
-    pub line: u64,
-    pub missed: bool,
+pub enum FormRefusal {
+    Malformed,
+    Access(AccessRefusal),
+    Mark(MarkRefusal),
+    Register(RegisterRefusal),
+    Decode(DecodeRefusal),
+    Read(ReadRefusal),
+    Write(WriteRefusal),
 }
 
 // What the session answers to a line.
@@ -24,95 +33,171 @@ pub struct LoggedFault {
 pub enum Reply {
     Done,
     Value(u64),
-    Refused { number: u64 },
     Decoded(Cycle),
-    EmptyLog,
-    Logged(LoggedFault),
+    Log(Option<LogReading>),
     Longwords(Vec<u32>),
     Counts(WriteCounts),
-    ReadRefused(ReadRefusal),
-    WriteRefused(WriteRefusal),
+    Refused(FormRefusal),
 }
 
-// A number in lower-case hexadecimal digits, without leading zeros.
-#[derive(Clone, Copy)]
-struct Hex(u64);
+impl From<AccessRefusal> for FormRefusal {
+    ghost from_gives = { λ refusal r. r ≡ F.Access refusal };
 
-fn digit_char(d: u64) -> char
-    requires { d < 16 }
-    ensures { result ≡ digit d }
-{
-    if d < 10 {
-        (b'0' + d as u8) as char
-    } else {
-        (b'a' + (d as u8 - 10)) as char
+    fn from(refusal: AccessRefusal) -> FormRefusal {
+        FormRefusal::Access(refusal)
     }
 }
 
-// The digits come highest first, so those of the quotient are written before the last one.
-fn write_hex<W: fmt::Write>(n: u64, f: &mut fmt::Formatter<W>) -> fmt::Result
-    ensures { WritesOnOk W.write_str_gives f.old result (hex n) f.new }
-{
-    if n >= 16 {
-        write_hex(n / 16, f)?;
-    }
-    f.write_char(digit_char(n % 16))
-}
+impl From<MarkRefusal> for FormRefusal {
+    ghost from_gives = { λ refusal r. r ≡ F.Mark refusal };
 
-impl fmt::Display for Hex {
-    ghost output = { λ h. Some (hex h.0) };
-
-    fn fmt<W: fmt::Write>(&self, f: &mut fmt::Formatter<W>) -> fmt::Result {
-        write_hex(self.0, f)
+    fn from(refusal: MarkRefusal) -> FormRefusal {
+        FormRefusal::Mark(refusal)
     }
 }
 
-// The word for a space.
-#[derive(Clone, Copy)]
-struct SpaceWord(Space);
+impl From<RegisterRefusal> for FormRefusal {
+    ghost from_gives = { λ refusal r. r ≡ F.Register refusal };
 
-impl fmt::Display for SpaceWord {
-    ghost output = { λ s. Some (space_text s.0) };
+    fn from(refusal: RegisterRefusal) -> FormRefusal {
+        FormRefusal::Register(refusal)
+    }
+}
 
-    fn fmt<W: fmt::Write>(&self, f: &mut fmt::Formatter<W>) -> fmt::Result {
-        match self.0 {
-            Space::SparseMemory => f.write_str("mem"),
-            Space::DenseMemory => f.write_str("dense"),
-            Space::SparseIo => f.write_str("io"),
-            Space::Configuration => f.write_str("config"),
+impl From<DecodeRefusal> for FormRefusal {
+    ghost from_gives = { λ refusal r. r ≡ F.Decode refusal };
+
+    fn from(refusal: DecodeRefusal) -> FormRefusal {
+        FormRefusal::Decode(refusal)
+    }
+}
+
+impl From<ReadRefusal> for FormRefusal {
+    ghost from_gives = { λ refusal r. r ≡ F.Read refusal };
+
+    fn from(refusal: ReadRefusal) -> FormRefusal {
+        FormRefusal::Read(refusal)
+    }
+}
+
+impl From<WriteRefusal> for FormRefusal {
+    ghost from_gives = { λ refusal r. r ≡ F.Write refusal };
+
+    fn from(refusal: WriteRefusal) -> FormRefusal {
+        FormRefusal::Write(refusal)
+    }
+}
+
+impl Refusal for FormRefusal {
+    ghost cause = { form_cause };
+
+    fn number(&self) -> u8 {
+        match self {
+            FormRefusal::Malformed => 18,
+            FormRefusal::Access(refusal) => refusal.number(),
+            FormRefusal::Mark(refusal) => refusal.number(),
+            FormRefusal::Register(refusal) => refusal.number(),
+            FormRefusal::Decode(refusal) => refusal.number(),
+            FormRefusal::Read(refusal) => refusal.number(),
+            FormRefusal::Write(refusal) => refusal.number(),
         }
     }
 }
 
-// The word for a direction.
-#[derive(Clone, Copy)]
-struct DirectionWord(Direction);
+// A refusal whose values are printed, each with its label.
+trait Labelled: Refusal {
+    ghost labels: { Self → Labels };
 
-impl fmt::Display for DirectionWord {
-    ghost output = { λ d. Some (direction_text d.0) };
+    // Writes what the refusal returns besides its number.
+    fn write_returned<W: fmt::Write>(&self, f: &mut fmt::Formatter<W>) -> fmt::Result
+        ensures { WritesOnOk W.write_str_gives f.old result (returned_text (labels self.now) (Self.cause self.now)) f.new };
+}
 
-    fn fmt<W: fmt::Write>(&self, f: &mut fmt::Formatter<W>) -> fmt::Result {
-        match self.0 {
-            Direction::Read => f.write_str("read"),
-            Direction::Write => f.write_str("write"),
+impl Labelled for ReadEnd {
+    ghost labels = { λ _. read_labels };
+
+    fn write_returned<W: fmt::Write>(&self, f: &mut fmt::Formatter<W>) -> fmt::Result {
+        match *self {
+            ReadEnd::NoWindow { moved } => write!(f, " (moved {moved:x})"),
+            ReadEnd::Fault { moved, pci, fault } => {
+                let line = fault.line();
+                write!(f, " (moved {moved:x}) (pci {pci:x}) (line {line:x})")
+            }
         }
     }
 }
 
-impl fmt::Display for LoggedFault {
-    ghost output = { λ x. Some (fault_text x) };
+impl Labelled for WriteEnd {
+    ghost labels = { λ _. write_labels };
 
-    fn fmt<W: fmt::Write>(&self, f: &mut fmt::Formatter<W>) -> fmt::Result {
-        let number = Hex(self.number);
-        let direction = DirectionWord(self.direction);
-        let pci = Hex(u64::from(self.pci));
-        let line = Hex(self.line);
-        let missed = Hex(u64::from(self.missed));
+    fn write_returned<W: fmt::Write>(&self, f: &mut fmt::Formatter<W>) -> fmt::Result {
+        let WriteCounts {
+            taken,
+            stored,
+            dismissed,
+        } = self.counts;
         write!(
             f,
-            "(log {number} {direction} (pci {pci}) (line {line}) (missed {missed}))"
+            " (taken {taken:x}) (stored {stored:x}) (dismissed {dismissed:x})"
         )
     }
+}
+
+// A check that fails returns nothing but its number.
+impl<E: Labelled> Labelled for BurstRefusal<E> {
+    ghost labels = { burst_labels E.labels };
+
+    fn write_returned<W: fmt::Write>(&self, f: &mut fmt::Formatter<W>) -> fmt::Result {
+        match self {
+            BurstRefusal::Ended(end) => end.write_returned(f),
+            BurstRefusal::Bounds | BurstRefusal::Alignment | BurstRefusal::Unclaimed => Ok(()),
+        }
+    }
+}
+
+// Only the refusals of a card's burst return anything.
+impl Labelled for FormRefusal {
+    ghost labels = { form_labels };
+
+    fn write_returned<W: fmt::Write>(&self, f: &mut fmt::Formatter<W>) -> fmt::Result {
+        match self {
+            FormRefusal::Read(refusal) => refusal.write_returned(f),
+            FormRefusal::Write(refusal) => refusal.write_returned(f),
+            FormRefusal::Malformed
+            | FormRefusal::Access(_)
+            | FormRefusal::Mark(_)
+            | FormRefusal::Register(_)
+            | FormRefusal::Decode(_) => Ok(()),
+        }
+    }
+}
+
+impl fmt::Display for FormRefusal {
+    ghost output = { λ refusal. Some (cause_text (form_labels refusal) (form_cause refusal)) };
+
+    fn fmt<W: fmt::Write>(&self, f: &mut fmt::Formatter<W>) -> fmt::Result {
+        let number = self.number();
+        write!(f, "(no {number:x}")?;
+        self.write_returned(f)?;
+        f.write_str(")")
+    }
+}
+
+// A filled log: its first fault, and 1 where others were missed.
+fn write_reading<W: fmt::Write>(reading: &LogReading, f: &mut fmt::Formatter<W>) -> fmt::Result
+    ensures { WritesOnOk W.write_str_gives f.old result (log_text (reading_values (Some reading.now))) f.new }
+{
+    let FaultRecord {
+        fault,
+        direction,
+        pci,
+    } = reading.first;
+    let (number, line) = (fault.number(), fault.line());
+    let missed = u8::from(reading.missed);
+    write!(
+        f,
+        "(log {number:x} {direction} (pci {pci:x}) (line {line:x}) (missed {missed:x}))"
+    )
 }
 
 // Numbers, each behind a space.
@@ -120,126 +205,42 @@ fn write_longwords<W: fmt::Write>(words: &[u32], f: &mut fmt::Formatter<W>) -> f
     ensures { WritesOnOk W.write_str_gives f.old result (spaced_numbers words.now) f.new }
 {
     for word in words {
-        let word = Hex(u64::from(*word));
-        write!(f, " {word}")?;
+        let word = *word;
+        write!(f, " {word:x}")?;
     }
     Ok(())
 }
 
-// What ended a card read: its number, and what it returns.
-#[derive(Clone, Copy)]
-struct ReadEndText(ReadEnd);
-
-impl fmt::Display for ReadEndText {
-    ghost output = { λ x. Some (read_end_text x.0) };
-
-    fn fmt<W: fmt::Write>(&self, f: &mut fmt::Formatter<W>) -> fmt::Result {
-        let number = Hex(u64::from(self.0.number()));
-        match self.0 {
-            ReadEnd::NoWindow { moved } => {
-                let moved = Hex(moved as u64);
-                write!(f, "(no {number} (moved {moved}))")
-            }
-            ReadEnd::Fault { moved, pci, fault } => {
-                let moved = Hex(moved as u64);
-                let pci = Hex(u64::from(pci));
-                let line = Hex(fault.line());
-                write!(f, "(no {number} (moved {moved}) (pci {pci}) (line {line}))")
-            }
-        }
-    }
-}
-
-// What ended a card write: its number, and what it returns.
-#[derive(Clone, Copy)]
-struct WriteEndText(WriteEnd);
-
-impl fmt::Display for WriteEndText {
-    ghost output = { λ x. Some (write_end_text x.0) };
-
-    fn fmt<W: fmt::Write>(&self, f: &mut fmt::Formatter<W>) -> fmt::Result {
-        let number = Hex(u64::from(self.0.number()));
-        let taken = Hex(self.0.counts.taken as u64);
-        let stored = Hex(self.0.counts.stored as u64);
-        let dismissed = Hex(self.0.counts.dismissed as u64);
-        write!(
-            f,
-            "(no {number} (taken {taken}) (stored {stored}) (dismissed {dismissed}))"
-        )
-    }
-}
-
-// The refusal of a card read. A check that fails returns nothing but its number.
-#[derive(Clone, Copy)]
-struct ReadRefusalText(ReadRefusal);
-
-impl fmt::Display for ReadRefusalText {
-    ghost output = { λ x. Some (read_refusal_text x.0) };
-
-    fn fmt<W: fmt::Write>(&self, f: &mut fmt::Formatter<W>) -> fmt::Result {
-        match self.0 {
-            BurstRefusal::Ended(end) => ReadEndText(end).fmt(f),
-            BurstRefusal::Bounds | BurstRefusal::Alignment | BurstRefusal::Unclaimed => {
-                let number = Hex(u64::from(self.0.number()));
-                write!(f, "(no {number})")
-            }
-        }
-    }
-}
-
-// The refusal of a card write, likewise.
-#[derive(Clone, Copy)]
-struct WriteRefusalText(WriteRefusal);
-
-impl fmt::Display for WriteRefusalText {
-    ghost output = { λ x. Some (write_refusal_text x.0) };
-
-    fn fmt<W: fmt::Write>(&self, f: &mut fmt::Formatter<W>) -> fmt::Result {
-        match self.0 {
-            BurstRefusal::Ended(end) => WriteEndText(end).fmt(f),
-            BurstRefusal::Bounds | BurstRefusal::Alignment | BurstRefusal::Unclaimed => {
-                let number = Hex(u64::from(self.0.number()));
-                write!(f, "(no {number})")
-            }
-        }
-    }
-}
-
 impl fmt::Display for Reply {
-    ghost output = { λ x. Some (reply_text x) };
+    ghost output = { λ reply. Some (reply_text reply) };
 
     fn fmt<W: fmt::Write>(&self, f: &mut fmt::Formatter<W>) -> fmt::Result {
         match self {
             Reply::Done => f.write_str("(ok)"),
             Reply::Value(n) => {
-                let n = Hex(*n);
-                write!(f, "(ok {n})")
-            }
-            Reply::Refused { number } => {
-                let number = Hex(*number);
-                write!(f, "(no {number})")
+                let n = *n;
+                write!(f, "(ok {n:x})")
             }
             Reply::Decoded(cycle) => {
-                let space = SpaceWord(cycle.space);
-                let pci = Hex(u64::from(cycle.pci));
-                let lanes = Hex(u64::from(cycle.lanes));
-                write!(f, "(ok {space} {pci} {lanes})")
+                let Cycle { space, pci, lanes } = *cycle;
+                write!(f, "(ok {space} {pci:x} {lanes:x})")
             }
-            Reply::EmptyLog => f.write_str("(log)"),
-            Reply::Logged(fault) => fault.fmt(f),
+            Reply::Log(None) => f.write_str("(log)"),
+            Reply::Log(Some(reading)) => write_reading(reading, f),
             Reply::Longwords(words) => {
                 f.write_str("(ok")?;
                 write_longwords(words.as_slice(), f)?;
                 f.write_str(")")
             }
             Reply::Counts(counts) => {
-                let taken = Hex(counts.taken as u64);
-                let stored = Hex(counts.stored as u64);
-                let dismissed = Hex(counts.dismissed as u64);
-                write!(f, "(ok {taken} {stored} {dismissed})")
+                let WriteCounts {
+                    taken,
+                    stored,
+                    dismissed,
+                } = *counts;
+                write!(f, "(ok {taken:x} {stored:x} {dismissed:x})")
             }
-            Reply::ReadRefused(refusal) => ReadRefusalText(*refusal).fmt(f),
-            Reply::WriteRefused(refusal) => WriteRefusalText(*refusal).fmt(f),
+            Reply::Refused(refusal) => refusal.fmt(f),
         }
     }
 }

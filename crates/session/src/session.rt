@@ -3,30 +3,26 @@ ghost use Rattle.std.specs.Prelude.{◌≡◌, min, [], ◌∷◌, map, length, 
 ghost use Rattle.memory.specs.Layouts.{flat};
 ghost use Rattle.memory.specs.Answers.{answered, no_values};
 ghost use Rattle.bridge.specs.Calls.{load, store};
-ghost use Rattle.bridge.specs.Log.{reading_values};
-ghost use Rattle.bridge.specs.Performed.{AnswersRequest, answer_of, call_of, request_of};
-ghost use Rattle.bridge.specs.Processor.{access_cause, cycle_values, decode_cause};
+ghost use Rattle.bridge.specs.Performed.{AnswersRequest, answer_of, request_of};
+ghost use Rattle.bridge.specs.Processor.{access_cause};
 ghost use Rattle.bridge.specs.State.{new_state};
 ghost use Rattle.session.specs.declared.forms.Name.TheVariants as N;
 ghost use Rattle.session.specs.Forms.{asked, pair_of};
 ghost use Rattle.session.specs.InputLines.{line_given};
 ghost use Rattle.session.specs.Quadwords.{cpu_load, cpu_store};
-ghost use Rattle.session.specs.Replies.{ok_text, refusal_text, reply_text};
-ghost use Rattle.session.specs.Sessions.{Answered, Does, InputAnswered, answer_text, call_buffer, cycle_text, log_text, replied, requested, session_state};
+ghost use Rattle.session.specs.Sessions.{Answered, Does, InputAnswered, reply_of, requested, session_state};
 
 use crate::forms::{Form, Pair, read_form};
 use crate::input::{InputLine, TooLong};
 use crate::lexer::LineError;
-use crate::quadwords::{put_quadword, quadword};
-use crate::replies::{LoggedFault, Reply};
+use crate::quadwords::put_quadword;
+use crate::replies::{FormRefusal, Reply};
 use bridge::Bridge;
 use bridge::calls::{Burst, Call, CallAnswer, Request};
-use bridge::decode::{Cycle, DecodeRefusal};
-use bridge::log::LogReading;
+use bridge::line::quadword;
 use bridge::processor::AccessRefusal;
 use memory::flat::Flat;
 use memory::marks::Marks;
-use memory::refusals::Refusal;
 use std::alloc::{AllocError, Global};
 
 // The bytes of the session's memory.
@@ -35,8 +31,8 @@ const BYTES: usize = 0x1_0000;
 // The longwords of the largest card read.
 const MOST_LONGWORDS: u64 = 64;
 
-// The number of the refusal of a line that spells no form.
-const MALFORMED: u64 = 18;
+// What a form comes to: the reply of its success, or why it is refused.
+type FormResult = Result<Reply, FormRefusal>;
 
 #[derive(Drop)]
 pub struct Session {
@@ -94,7 +90,7 @@ impl Session {
     }
 
     // The quadword at an address.
-    fn cpu_load(&mut self, address: u64) -> Result<u64, AccessRefusal>
+    fn load_quadword(&mut self, address: u64) -> Result<u64, AccessRefusal>
         ensures answer { answered (λ value. value ∷ []) access_cause result ≡ cpu_load (session_state self.old) address }
         ensures after { session_state self.new ≡ session_state self.old }
     {
@@ -106,7 +102,7 @@ impl Session {
     }
 
     // Stores a quadword at an address, by way of its line.
-    fn cpu_store(&mut self, address: u64, value: u64) -> Result<(), AccessRefusal>
+    fn store_quadword(&mut self, address: u64, value: u64) -> Result<(), AccessRefusal>
         ensures answer { answered no_values access_cause result ≡ (cpu_store (session_state self.old) address value).answer }
         ensures after { session_state self.new ≡ (cpu_store (session_state self.old) address value).state }
     {
@@ -119,39 +115,57 @@ impl Session {
         self.store_line(start, line)
     }
 
+    fn cpu_load(&mut self, address: u64) -> FormResult
+        ensures { Does self.old (N.CpuLoad, address) (reply_of result) self.new }
+    {
+        Ok(Reply::Value(self.load_quadword(address)?))
+    }
+
+    fn cpu_store(&mut self, address: u64, value: u64) -> FormResult
+        ensures { Does self.old (N.CpuStore, (address, value)) (reply_of result) self.new }
+    {
+        self.store_quadword(address, value)?;
+        Ok(Reply::Done)
+    }
+
+    fn mark(&mut self, line: u64) -> FormResult
+        ensures { Does self.old (N.Mark, line) (reply_of result) self.new }
+    {
+        self.bridge.mark(line)?;
+        Ok(Reply::Done)
+    }
+
     // Reads a register.
-    fn reg_read(&mut self, register: u64) -> Reply
-        ensures { Does self.old (N.RegRead, register) result self.new }
+    fn reg_read(&mut self, register: u64) -> FormResult
+        ensures { Does self.old (N.RegRead, register) (reply_of result) self.new }
     {
         let CallAnswer::RegisterRead(result) = self.request(Request::RegisterRead { n: register })
         else {
             unreachable()
         };
-        match result {
-            Ok(value) => Reply::Value(u64::from(value)),
-            Err(refusal) => refused(&refusal),
-        }
+        Ok(Reply::Value(u64::from(result?)))
     }
 
     // Writes a register.
-    fn reg_write(&mut self, register: u64, value: u32) -> Reply
-        ensures { Does self.old (N.RegWrite, (register, value)) result self.new }
+    fn reg_write(&mut self, register: u64, value: u32) -> FormResult
+        ensures { Does self.old (N.RegWrite, (register, value)) (reply_of result) self.new }
     {
         let request = Request::RegisterWrite { n: register, value };
         let CallAnswer::RegisterWrite(result) = self.request(request) else {
             unreachable()
         };
-        done(result)
+        result?;
+        Ok(Reply::Done)
     }
 
     // Decodes a processor address.
-    fn pci(&mut self, address: u64) -> Reply
-        ensures { Does self.old (N.Pci, address) result self.new }
+    fn pci(&mut self, address: u64) -> FormResult
+        ensures { Does self.old (N.Pci, address) (reply_of result) self.new }
     {
         let CallAnswer::Decode(result) = self.request(Request::Decode { cpu: address }) else {
             unreachable()
         };
-        decoded(result)
+        Ok(Reply::Decoded(result?))
     }
 
     // Reads the log.
@@ -161,7 +175,7 @@ impl Session {
         let CallAnswer::LogRead(reading) = self.request(Request::LogRead) else {
             unreachable()
         };
-        logged(reading)
+        Reply::Log(reading)
     }
 
     // Empties the log.
@@ -173,8 +187,8 @@ impl Session {
     }
 
     // Serves a card's read, into a buffer that the reply keeps.
-    fn card_read(&mut self, heap: Global, pci: u32, count: u64) -> Result<Reply, AllocError>
-        ensures replied { IfOk result (λ reply. Does self.old (N.CardRead, (pci, count)) reply self.new) }
+    fn card_read(&mut self, heap: Global, pci: u32, count: u64) -> Result<FormResult, AllocError>
+        ensures replied { IfOk result (λ outcome. Does self.old (N.CardRead, (pci, count)) (reply_of outcome) self.new) }
         ensures unchanged { OnErr result (self.new ≡ self.old) }
     {
         let buffer = vec![in heap; 0; count.min(MOST_LONGWORDS) as usize]?;
@@ -184,14 +198,25 @@ impl Session {
             unreachable()
         };
         if let Err(refusal) = result {
-            return Ok(Reply::ReadRefused(refusal));
+            return Ok(Err(refusal.into()));
         }
-        Ok(Reply::Longwords(buffer_of(heap, call)))
+        let Call::Card(burst) = call else {
+            unreachable()
+        };
+        let Burst::CardRead { buffer, .. } = burst else {
+            unreachable()
+        };
+        Ok(Ok(Reply::Longwords(buffer)))
     }
 
     // Serves a card's write.
-    fn card_write(&mut self, heap: Global, pci: u32, pairs: &[Pair]) -> Result<Reply, AllocError>
-        ensures replied { IfOk result (λ reply. Does self.old (N.CardWrite, (pci, map pair_of pairs.now)) reply self.new) }
+    fn card_write(
+        &mut self,
+        heap: Global,
+        pci: u32,
+        pairs: &[Pair],
+    ) -> Result<FormResult, AllocError>
+        ensures replied { IfOk result (λ outcome. Does self.old (N.CardWrite, (pci, map pair_of pairs.now)) (reply_of outcome) self.new) }
         ensures unchanged { OnErr result (self.new ≡ self.old) }
     {
         let (words, enables) = split_pairs(heap, pairs)?;
@@ -205,25 +230,25 @@ impl Session {
             unreachable()
         };
         match result {
-            Ok(counts) => Ok(Reply::Counts(counts)),
-            Err(refusal) => Ok(Reply::WriteRefused(refusal)),
+            Ok(counts) => Ok(Ok(Reply::Counts(counts))),
+            Err(refusal) => Ok(Err(refusal.into())),
         }
     }
 
     // Does what a form asks for. All memory that is needed is had before the bridge is called.
-    fn perform(&mut self, heap: Global, form: &Form) -> Result<Reply, AllocError>
-        ensures replied { IfOk result (λ reply. Does self.old (asked form.now) reply self.new) }
+    fn perform(&mut self, heap: Global, form: &Form) -> Result<FormResult, AllocError>
+        ensures replied { IfOk result (λ outcome. Does self.old (asked form.now) (reply_of outcome) self.new) }
         ensures unchanged { OnErr result (self.new ≡ self.old) }
     {
         match form {
-            Form::CpuStore { address, value } => Ok(done(self.cpu_store(*address, *value))),
-            Form::CpuLoad { address } => Ok(valued(self.cpu_load(*address))),
-            Form::Mark { line } => Ok(done(self.bridge.mark(*line))),
+            Form::CpuStore { address, value } => Ok(self.cpu_store(*address, *value)),
+            Form::CpuLoad { address } => Ok(self.cpu_load(*address)),
+            Form::Mark { line } => Ok(self.mark(*line)),
             Form::RegRead { register } => Ok(self.reg_read(*register)),
             Form::RegWrite { register, value } => Ok(self.reg_write(*register, *value)),
             Form::Pci { address } => Ok(self.pci(*address)),
-            Form::Log => Ok(self.log()),
-            Form::LogClear => Ok(self.log_clear()),
+            Form::Log => Ok(Ok(self.log())),
+            Form::LogClear => Ok(Ok(self.log_clear())),
             Form::CardRead { pci, count } => self.card_read(heap, *pci, *count),
             Form::CardWrite { pci, pairs } => self.card_write(heap, *pci, pairs.as_slice()),
         }
@@ -236,7 +261,7 @@ impl Session {
     {
         match line {
             Ok(bytes) => self.answer(heap, bytes.as_slice()),
-            Err(TooLong) => Ok(Reply::Refused { number: MALFORMED }),
+            Err(TooLong) => Ok(Reply::Refused(FormRefusal::Malformed)),
         }
     }
 
@@ -246,25 +271,15 @@ impl Session {
         ensures unchanged { OnErr result (self.new ≡ self.old) }
     {
         match read_form(heap, line) {
-            Ok(form) => self.perform(heap, &form),
+            Ok(form) => {
+                let outcome = self.perform(heap, &form)?;
+                Ok(outcome.unwrap_or_else(Reply::Refused))
+            }
             Err(error) => match error {
-                LineError::Malformed => Ok(Reply::Refused { number: MALFORMED }),
+                LineError::Malformed => Ok(Reply::Refused(FormRefusal::Malformed)),
                 LineError::NoMemory => Err(AllocError),
             },
         }
-    }
-}
-
-// The buffer of a call: only a card read has one.
-fn buffer_of(heap: Global, call: Call) -> Vec<u32>
-    ensures { result.items ≡ call_buffer (call_of call) }
-{
-    match call {
-        Call::Processor(_) => Vec::new(heap),
-        Call::Card(burst) => match burst {
-            Burst::CardRead { buffer, .. } => buffer,
-            Burst::CardWrite { .. } => Vec::new(heap),
-        },
     }
 }
 
@@ -280,68 +295,10 @@ fn split_pairs(heap: Global, pairs: &[Pair]) -> Result<(Vec<u32>, Vec<u8>), Allo
     ensures words { IfOk result (λ v. v.0.items ≡ map (λ (p : Pair). p.longword) pairs.now) }
     ensures enables { IfOk result (λ v. v.1.items ≡ map (λ (p : Pair). min p.enables 255) pairs.now) }
 {
-    let mut words = Vec::new(heap);
-    let mut enables = Vec::new(heap);
-    for pair in pairs {
-        words.push(pair.longword)?;
-        enables.push(byte_enables(pair.enables))?;
-    }
+    let words = pairs.iter().map(|pair| pair.longword).collect(heap)?;
+    let enables = pairs
+        .iter()
+        .map(|pair| byte_enables(pair.enables))
+        .collect(heap)?;
     Ok((words, enables))
-}
-
-// The reply of a call that returns nothing.
-fn done<R: Refusal + Drop>(outcome: Result<(), R>) -> Reply
-    ensures reply { result ≡ replied (answered no_values R.Refusal.cause outcome) }
-    ensures text { reply_text result ≡ answer_text ok_text [] (answered no_values R.Refusal.cause outcome) }
-{
-    match outcome {
-        Ok(()) => Reply::Done,
-        Err(refusal) => refused(&refusal),
-    }
-}
-
-// The reply of a call that returns a value.
-fn valued<R: Refusal + Drop>(outcome: Result<u64, R>) -> Reply
-    ensures reply { result ≡ replied (answered (λ value. value ∷ []) R.Refusal.cause outcome) }
-    ensures text { reply_text result ≡ answer_text ok_text [] (answered (λ value. value ∷ []) R.Refusal.cause outcome) }
-{
-    match outcome {
-        Ok(value) => Reply::Value(value),
-        Err(refusal) => refused(&refusal),
-    }
-}
-
-// The reply of a decoding.
-fn decoded(outcome: Result<Cycle, DecodeRefusal>) -> Reply
-    ensures { reply_text result ≡ answer_text cycle_text [] (answered cycle_values decode_cause outcome) }
-{
-    match outcome {
-        Ok(cycle) => Reply::Decoded(cycle),
-        Err(refusal) => refused(&refusal),
-    }
-}
-
-// The reply of a log read.
-fn logged(reading: Option<LogReading>) -> Reply
-    ensures { reply_text result ≡ log_text (reading_values reading) }
-{
-    match reading {
-        None => Reply::EmptyLog,
-        Some(reading) => Reply::Logged(LoggedFault {
-            number: u64::from(reading.first.fault.number()),
-            direction: reading.first.direction,
-            pci: reading.first.pci,
-            line: reading.first.fault.line(),
-            missed: reading.missed,
-        }),
-    }
-}
-
-fn refused<R: Refusal>(refusal: &R) -> Reply
-    ensures reply { result ≡ Reply.Refused (R.Refusal.cause refusal.now).number }
-    ensures text { reply_text result ≡ refusal_text [] (R.Refusal.cause refusal.now).number [] }
-{
-    Reply::Refused {
-        number: u64::from(refusal.number()),
-    }
 }

@@ -1,71 +1,22 @@
-use Rattle.std.proofs.Common.{[], map, Ok, sym, ap, ◌∙◌}
-use Rattle.memory.specs.Marked.{lines_marked}
-use Rattle.bridge.specs.State.{with_lines}
-use Rattle.session.specs.declared.forms.Name.TheVariants as N
-use Rattle.session.specs.Forms.{asked, pair_of}
-use Rattle.session.specs.Replies.{ok_text}
-use Rattle.session.specs.Sessions.{answer_text, replied, session_state}
+use Rattle.std.proofs.Common.{ap}
+use Rattle.session.specs.Forms.{asked}
 use Rattle.session.proofs.Performing.{made_in}
 use Rattle.session.proofs.session.Session.perform.Goals as goal
 
-pub returns-in-CpuStore : goal.returns-in-CpuStore
-returns-in-CpuStore c = record {
-  replied = made_in c.args.self.now c.cpu_store.new.self c.args.form.now _ (Ok c.done.result) (ap asked c.in-CpuStore.is) (record {
-    text = c.done.ensures.text ∙ ap (answer_text ok_text []) c.cpu_store.ensures.answer;
-    is = λ _. c.done.ensures.reply ∙ ap replied c.cpu_store.ensures.answer;
-    state = c.cpu_store.ensures.after;
-  });
-  unchanged = tt;
-}
+pub returns-in-CpuStore-clause-replied : goal.returns-in-CpuStore-clause-replied
+returns-in-CpuStore-clause-replied c = made_in _ _ _ _ _ (ap asked c.in-CpuStore.is) c.cpu_store.ensures
 
-pub returns-in-CpuLoad : goal.returns-in-CpuLoad
-returns-in-CpuLoad c = record {
-  replied = made_in c.args.self.now c.cpu_load.new.self c.args.form.now _ (Ok c.valued.result) (ap asked c.in-CpuLoad.is) (record {
-    text = c.valued.ensures.text ∙ ap (answer_text ok_text []) c.cpu_load.ensures.answer;
-    is = λ _. c.valued.ensures.reply ∙ ap replied c.cpu_load.ensures.answer;
-    state = c.cpu_load.ensures.after;
-  });
-  unchanged = tt;
-}
+pub returns-in-CpuLoad-clause-replied : goal.returns-in-CpuLoad-clause-replied
+returns-in-CpuLoad-clause-replied c = made_in _ _ _ _ _ (ap asked c.in-CpuLoad.is) c.cpu_load.ensures
 
-pub returns-in-Mark : goal.returns-in-Mark
-returns-in-Mark c =
-    let s = c.args.self.now in
-    record {
-      replied = made_in s (record { bridge = c.mark.new.self }) c.args.form.now _ (Ok c.done-in-Mark.result) (ap asked c.in-Mark.is) (record {
-        text = c.done-in-Mark.ensures.text ∙ ap (answer_text ok_text []) c.mark.ensures.answer;
-        is = λ _. c.done-in-Mark.ensures.reply ∙ ap replied c.mark.ensures.answer;
-        state = c.mark.ensures.after ∙ ap (λ a. with_lines (lines_marked a c.in-Mark.line) (session_state s)) c.mark.ensures.answer;
-      });
-      unchanged = tt;
-    }
+pub returns-in-Mark-clause-replied : goal.returns-in-Mark-clause-replied
+returns-in-Mark-clause-replied c = made_in _ _ _ _ _ (ap asked c.in-Mark.is) c.mark.ensures
 
-pub returns-in-RegRead : goal.returns-in-RegRead
-returns-in-RegRead c = record {
-  replied = made_in c.args.self.now c.reg_read.new.self c.args.form.now _ (Ok c.reg_read.result) (ap asked c.in-RegRead.is) c.reg_read.ensures;
-  unchanged = tt;
-}
+pub returns-in-RegRead-clause-replied : goal.returns-in-RegRead-clause-replied
+returns-in-RegRead-clause-replied c = made_in _ _ _ _ _ (ap asked c.in-RegRead.is) c.reg_read.ensures
 
-pub returns-in-RegWrite : goal.returns-in-RegWrite
-returns-in-RegWrite c = record {
-  replied = made_in c.args.self.now c.reg_write.new.self c.args.form.now _ (Ok c.reg_write.result) (ap asked c.in-RegWrite.is) c.reg_write.ensures;
-  unchanged = tt;
-}
+pub returns-in-RegWrite-clause-replied : goal.returns-in-RegWrite-clause-replied
+returns-in-RegWrite-clause-replied c = made_in _ _ _ _ _ (ap asked c.in-RegWrite.is) c.reg_write.ensures
 
-pub returns-in-Pci : goal.returns-in-Pci
-returns-in-Pci c = record {
-  replied = made_in c.args.self.now c.pci.new.self c.args.form.now _ (Ok c.pci.result) (ap asked c.in-Pci.is) c.pci.ensures;
-  unchanged = tt;
-}
-
-pub returns-in-CardRead : goal.returns-in-CardRead
-returns-in-CardRead c = record {
-  replied = made_in c.args.self.now c.card_read.new.self c.args.form.now _ c.card_read.result (ap asked c.in-CardRead.is) c.card_read.ensures.replied;
-  unchanged = c.card_read.ensures.unchanged;
-}
-
-pub returns-in-CardWrite : goal.returns-in-CardWrite
-returns-in-CardWrite c = record {
-  replied = made_in c.args.self.now c.card_write.new.self c.args.form.now (N.CardWrite, (c.in-CardWrite.pci, map pair_of c.as_slice.result.now)) c.card_write.result (ap asked c.in-CardWrite.is ∙ ap (λ l. (N.CardWrite, (c.in-CardWrite.pci, map pair_of l))) (sym c.as_slice.ensures.value)) c.card_write.ensures.replied;
-  unchanged = c.card_write.ensures.unchanged;
-}
+pub returns-in-Pci-clause-replied : goal.returns-in-Pci-clause-replied
+returns-in-Pci-clause-replied c = made_in _ _ _ _ _ (ap asked c.in-Pci.is) c.pci.ensures
