@@ -1,6 +1,6 @@
 -- The steps by which a line is cut into tokens.
 use Rattle.std.proofs.Common.{◌≡◌, ℕ, ◌+◌, ◌<◌, ◌≤◌, Bool, true, false, List, [], ◌∷◌, ◌++◌, length, get_or, take, drop, sym, refl, ap, ◌∙◌, subst, append-nil, arith, length-append, length-drop}
-use Rattle.std.proofs.lemmas.List.{append_cancel_left, drop-drop, take-append-drop, length-take-le, drop_more}
+use Rattle.std.proofs.lemmas.List.{append_cancel_left, drop-drop, take-append-drop, length-take-le}
 use Rattle.session.specs.declared.lexer.Token.{Token}
 use Rattle.session.specs.Tokens.{Lexeme, opening, closing, word_of, word_byte, WordBytes, Valid, space, gap, spelling, is_opening, lexeme, lexemes, offset, render, Lexes, Placed}
 use Rattle.session.specs.Steps.{WordEnds, Whole, Step}
