@@ -15,7 +15,7 @@ pub(crate) fn longword(line: &[u8; 32], offset: usize) -> u32
 }
 
 // The quadword at an offset.
-pub fn quadword(line: &[u8; 32], offset: usize) -> u64
+pub(crate) fn quadword(line: &[u8; 32], offset: usize) -> u64
     requires { offset + 8 ≤ 32 }
     ensures { result ≡ quadword_at line.now offset }
 {

@@ -15,11 +15,10 @@ ghost use Rattle.session.specs.Sessions.{Answered, Does, InputAnswered, reply_of
 use crate::forms::{Form, Pair, read_form};
 use crate::input::{InputLine, TooLong};
 use crate::lexer::LineError;
-use crate::quadwords::put_quadword;
+use crate::quadwords::{put_quadword, quadword};
 use crate::replies::{FormRefusal, Reply};
 use bridge::Bridge;
 use bridge::calls::{Burst, Call, CallAnswer, Request};
-use bridge::line::quadword;
 use bridge::processor::AccessRefusal;
 use memory::flat::Flat;
 use memory::marks::Marks;
