@@ -14,9 +14,6 @@ loop-first-init g c =
 pub returns-in_default : goal.returns-in_default
 returns-in_default g c = no_window_next _ _ _ _ _ _ _ c.loop-first.invariant (ltb-true _ _ (sym c.takes_more.ensures ∙ c.loop-first-test.true)) (sym c.in_default.ensures) _ c.no_window.ensures
 
-pub write_piece-served-requires : goal.write_piece-served-requires
-write_piece-served-requires g c = simp (length-take, length-drop) (omega arith)
-
 pub invariant_of-enables : goal.invariant_of-enables
 invariant_of-enables g c = record { narrow = wide_part c.args.enables.now c.args.count c.loop-first.counts.taken c.in_line-n.result (omega arith) c.requires.narrow }
 

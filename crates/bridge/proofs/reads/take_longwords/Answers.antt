@@ -4,8 +4,5 @@ use Rattle.std.proofs.lemmas.List.Edits.{fill_by_more}
 use Rattle.bridge.specs.Longwords.{longword_at}
 use Rattle.bridge.proofs.reads.take_longwords.Goals as goal
 
-pub loop-k-preserved : goal.loop-k-preserved
-loop-k-preserved c = rw c.longword.ensures (fill_by_more (λ j. longword_at c.args.line.now (c.args.offset + 4 * j)) c.loop-k.words _ 0 (omega arith) c.loop-k.invariant)
-
 pub returns : goal.returns
 returns c = fill_by_all (λ j. longword_at c.args.line.now (c.args.offset + 4 * j)) _ _ 0 c.loop-k.auto.words (λ k h. c.loop-k.invariant k (omega arith))

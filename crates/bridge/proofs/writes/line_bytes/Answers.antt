@@ -5,12 +5,6 @@ use Rattle.std.proofs.lemmas.List.{length-set}
 use Rattle.bridge.specs.Longwords.{line_byte, line_bytes}
 use Rattle.bridge.proofs.writes.line_bytes.Goals as goal
 
-pub loop-i-preserved : goal.loop-i-preserved
-loop-i-preserved c = (
-  simp length-set c.loop-i.invariant.0,
-  rw c.line_byte.ensures (fill_by_more (line_byte c.args.offset c.args.words.now) c.loop-i.byte-items _ 0 (omega arith) c.loop-i.invariant.1),
-)
-
 pub returns : goal.returns
 unfolding line_bytes
 returns c = fill_by_all (line_byte c.args.offset c.args.words.now) _ 32 0 c.loop-i.invariant.0 (λ k h. c.loop-i.invariant.1 k (omega arith))
