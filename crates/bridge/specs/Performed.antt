@@ -1,5 +1,5 @@
 -- The code's calls and answers, by the definitions of the device.
-use Rattle.std.specs.Prelude.{◌≡◌, ℕ, List, [], ◌∷◌, vec_items, Option, Result}
+use Rattle.std.specs.Prelude.{◌≡◌, ℕ, ◌/◌, List, [], ◌∷◌, vec_items, IfErr, Option, Result}
 use Rattle.memory.specs.Answers.{Answer, answered, no_values, success}
 use Rattle.bridge.specs.declared.bursts.BurstRefusal.{BurstRefusal}
 use Rattle.bridge.specs.declared.bursts.ReadEnd.{ReadEnd}
@@ -10,6 +10,7 @@ use Rattle.bridge.specs.declared.decode.DecodeRefusal.{DecodeRefusal}
 use Rattle.bridge.specs.declared.log.LogReading.{LogReading}
 use Rattle.bridge.specs.declared.processor.AccessRefusal.{AccessRefusal}
 use Rattle.bridge.specs.declared.registers.RegisterRefusal.{RegisterRefusal}
+use Rattle.bridge.specs.declared.registers.RegisterRefusal.TheVariants.{NotListed}
 use Rattle.bridge.specs.declared.calls.Call as Code
 use Rattle.bridge.specs.declared.calls.Call.TheVariants.{Card, Processor}
 use Rattle.bridge.specs.declared.calls.Request as CodeRequest
@@ -22,8 +23,8 @@ use Rattle.bridge.specs.BurstAnswers.{read_answered, write_answered}
 use Rattle.bridge.specs.Bursts.{Burst, card_read, card_write}
 use Rattle.bridge.specs.Calls.{Call, Request, card, decode, load, log_clear, log_read, processor, register_read, register_write, store}
 use Rattle.bridge.specs.Log.{reading_values}
-use Rattle.bridge.specs.Processor.{access_cause, cycle_values, decode_cause}
-use Rattle.bridge.specs.Registers.{register_cause}
+use Rattle.bridge.specs.Processor.{OfLine, access_cause, cycle_values, decode_cause}
+use Rattle.bridge.specs.Registers.{register_cause, register_named, write_refusal}
 
 abbrev pub request_of : CodeRequest.Request → Request
 request_of (Q.RegisterRead n) = register_read n
@@ -62,12 +63,12 @@ answer_of A.LogClear = success []
 answer_of (A.CardRead r) = read_answered r
 answer_of (A.CardWrite r) = write_answered r
 
--- the kind of an answer is that of its call
+-- the kind of an answer is that of its call; where a number does not tell which refusal it is, it is the one that the call has
 abbrev pub AnswersRequest : CodeRequest.Request → CallAnswer → Type 0
-AnswersRequest (Q.RegisterRead n) a = (r : Result ℕ RegisterRefusal) × (a ≡ A.RegisterRead r)
-AnswersRequest (Q.RegisterWrite n value) a = (r : Result Unit RegisterRefusal) × (a ≡ A.RegisterWrite r)
-AnswersRequest (Q.Load address) a = (r : Result (List ℕ) AccessRefusal) × (a ≡ A.Load r)
-AnswersRequest (Q.Store address bytes) a = (r : Result Unit AccessRefusal) × (a ≡ A.Store r)
+AnswersRequest (Q.RegisterRead n) a = (r : Result ℕ RegisterRefusal) × (a ≡ A.RegisterRead r) × IfErr r (λ e. e ≡ NotListed)
+AnswersRequest (Q.RegisterWrite n value) a = (r : Result Unit RegisterRefusal) × (a ≡ A.RegisterWrite r) × IfErr r (λ e. e ≡ write_refusal (register_named n))
+AnswersRequest (Q.Load address) a = (r : Result (List ℕ) AccessRefusal) × (a ≡ A.Load r) × IfErr r (OfLine (address / 32))
+AnswersRequest (Q.Store address bytes) a = (r : Result Unit AccessRefusal) × (a ≡ A.Store r) × IfErr r (OfLine (address / 32))
 AnswersRequest (Q.Decode cpu) a = (r : Result Cycle DecodeRefusal) × (a ≡ A.Decode r)
 AnswersRequest Q.LogRead a = (r : Option LogReading) × (a ≡ A.LogRead r)
 AnswersRequest Q.LogClear a = a ≡ A.LogClear

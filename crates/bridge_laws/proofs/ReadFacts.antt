@@ -6,17 +6,21 @@ use Rattle.std.proofs.lemmas.Bool.{cases_eq, cases_lt, cond-false, cond-true, le
 use Rattle.std.proofs.lemmas.Bool.Decides.{nat_tests}
 use Rattle.memory.specs.Answers.{Answer, refusal}
 use Rattle.memory.specs.Content.{Content, Lines, absent, good, spoiled}
+use Rattle.memory.specs.declared.MemoryFault.TheVariants.{Absent, Spoiled}
 use Rattle.bridge.specs.declared.faults.BurstFault.{BurstFault}
+use Rattle.bridge.specs.declared.faults.WalkFault.{WalkFault}
+use Rattle.bridge.specs.declared.faults.WalkFault.TheVariants.{Memory, NotValid}
+use Rattle.bridge.specs.declared.log.Direction.{Direction}
 use Rattle.bridge.specs.declared.log.Direction.TheVariants.{Read}
 use Rattle.bridge.specs.declared.log.FaultLog.{FaultLog}
 use Rattle.bridge.specs.declared.look_aside.LookAside.{LookAside}
 use Rattle.bridge.specs.Bits.{bits}
 use Rattle.bridge.specs.Bursts.{Burst, Piece, burst_start, card_read, cut, failed_check, in_line, is_unclaimed, misaligned, out_of_bounds, pieces, reading}
 use Rattle.bridge.specs.Calls.{burst_outcome}
-use Rattle.bridge.specs.Faults.{fault_line, fault_number}
+use Rattle.bridge.specs.Faults.{fault_line, fault_number, walk_line, walk_number}
 use Rattle.bridge.specs.Longwords.{longword_at, longwords}
 use Rattle.bridge.specs.Pieces.{Edit, PieceOutcome, PieceReply, after_piece, edited, no_edit, no_window, outcome_at_content, outcome_at_place, piece_outcome, read_ended, words_moved}
-use Rattle.bridge_laws.specs.Reads.{FaultAt, ReadAt, ReadEndsWith, ReadLaw, Reads, at_absent, at_fault, at_no_window, at_spoiled, at_table, complete, serving}
+use Rattle.bridge_laws.specs.Reads.{FaultAt, ReadAt, ReadEndsWith, ReadLaw, Reads, at_absent, at_absent_table, at_entry, at_fault, at_no_window, at_spoiled, at_spoiled_table, complete, serving}
 use Rattle.bridge.specs.Runs.{Run, all_moved, ends, answer_of_read, run, run_piece, run_unless}
 use Rattle.bridge.specs.State.{State}
 use Rattle.bridge.specs.Translation.{Place, place_of, table_fault, target, unclaimed}
@@ -24,10 +28,16 @@ use Rattle.bridge.specs.Windows.{claim}
 use Rattle.bridge_laws.proofs.CutFacts.{cut_more, cut_none, in_line_some}
 use Rattle.bridge_laws.proofs.SameLine.{target_low, target_on}
 
+-- what stops a walk is the fault that its number and line say
+pub walk_met : (s : State) (pci : ℕ) {d : Direction} (fault : WalkFault) → place_of s pci ≡ table_fault fault → FaultAt s pci d (walk_number fault) (walk_line fault)
+walk_met s pci (NotValid line) e = at_entry line e
+walk_met s pci (Memory (Absent line)) e = at_absent_table line e
+walk_met s pci (Memory (Spoiled line)) e = at_spoiled_table line e
+
 -- what a card learns of a piece of a read
 data ReadReply (s : State) (pci n : ℕ) : PieceReply → Type 0 where
   got : (address : ℕ) (bytes : List ℕ) → place_of s pci ≡ target address → s.lines (address / 32) ≡ good bytes → ReadReply s pci n (words_moved (longwords n (address % 32) bytes))
-  failed : {fault : BurstFault} → FaultAt s pci Read fault → ReadReply s pci n (read_ended pci fault)
+  failed : {fault : BurstFault} → FaultAt s pci Read (fault_number fault) (fault_line fault) → ReadReply s pci n (read_ended pci fault)
   unheld : place_of s pci ≡ unclaimed → ReadReply s pci n no_window
 
 module _ (s : State) (pci n : ℕ) (t : LookAside) where
@@ -39,7 +49,7 @@ module _ (s : State) (pci n : ℕ) (t : LookAside) where
 
   reply_at_place : (q : Place) → place_of s pci ≡ q → ReadReply s pci n (outcome_at_place t s.control.log s.lines (record { pci = pci; count = n; job = reading }) q).reply
   reply_at_place unclaimed e = unheld e
-  reply_at_place (table_fault fault) e = failed (at_table fault e)
+  reply_at_place (table_fault fault) e = failed (walk_met s pci fault e)
   reply_at_place (target address) e = reply_at_content address e _ refl
 
 read_reply : (s : State) (pci n : ℕ) → ReadReply s pci n (piece_outcome s.control s.lines (record { pci = pci; count = n; job = reading })).reply

@@ -5,16 +5,12 @@ use Rattle.std.proofs.lemmas.Bool.{both_ways, cases_Bool, cases_eq, cond-false, 
 use Rattle.std.proofs.lemmas.Bool.Decides.{nat_tests}
 use Rattle.std.specs.List.{AllByRecursion}
 use Rattle.memory.specs.Answers.{Answer, success, refusal}
-use Rattle.memory.specs.declared.MemoryFault.TheVariants.{Absent, Spoiled}
-use Rattle.bridge.specs.declared.faults.BurstFault.{BurstFault}
-use Rattle.bridge.specs.declared.faults.BurstFault.TheVariants.{Target, Walk}
-use Rattle.bridge.specs.declared.faults.WalkFault.TheVariants.{Memory, NotValid}
-use Rattle.bridge.specs.Faults.{fault_number}
+use Rattle.bridge.specs.declared.log.Direction.{Direction}
 use Rattle.bridge.specs.Bursts.{Burst, Job, Piece, burst_start, card_read, card_write, cut, failed_check, in_line, is_unclaimed, misaligned, out_of_bounds, reading, writing}
 use Rattle.bridge.specs.Calls.{burst_outcome, card, performed}
 use Rattle.bridge_laws.specs.Cuts.{InOneLine}
 use Rattle.bridge.specs.Pieces.{PieceReply, no_window, read_ended, words_dismissed, words_moved, words_stored}
-use Rattle.bridge_laws.specs.Reads.{ReadEndsWith, at_fault, at_no_window, complete, serving}
+use Rattle.bridge_laws.specs.Reads.{FaultAt, ReadEndsWith, at_absent, at_absent_table, at_entry, at_fault, at_no_window, at_spoiled, at_spoiled_table, complete, serving}
 use Rattle.bridge_laws.proofs.BoundsFacts.{alignment, bounds}
 use Rattle.bridge_laws.specs.Refusals.{ChecksLaw, Refusals}
 use Rattle.bridge.specs.declared.bursts.WriteCounts.{WriteCounts}
@@ -48,12 +44,12 @@ unheld : (s : State) (pci : ℕ) → place_of s pci ≡ unclaimed → is_unclaim
 unheld s pci e = subst (UnclaimedBy s pci) e (place_fact s pci _ (translates s pci))
 
 -- a fault's number is not 4
-over_4 : (fault : BurstFault) → 5 ≤ fault_number fault
-over_4 (Walk (NotValid line)) = omega arith
-over_4 (Walk (Memory (Absent line))) = omega arith
-over_4 (Walk (Memory (Spoiled line))) = omega arith
-over_4 (Target (Absent line)) = omega arith
-over_4 (Target (Spoiled line)) = omega arith
+over_4 : {s : State} {pci number line : ℕ} {d : Direction} → FaultAt s pci d number line → 5 ≤ number
+over_4 (at_entry line e) = omega arith
+over_4 (at_absent_table line e) = omega arith
+over_4 (at_spoiled_table line e) = omega arith
+over_4 (at_absent address e h) = omega arith
+over_4 (at_spoiled address e h) = omega arith
 
 -- the number and the values of an answer
 abbrev number_of : Answer → ℕ
@@ -152,7 +148,7 @@ module _ (s : State) (b : Burst) where
 read_4 : {s : State} {pci moved left : ℕ} {a : Answer} (values : List ℕ) → ReadEndsWith s pci moved left a → a ≡ refusal 4 values → (place_of s pci ≡ unclaimed) × (moved ∷ [] ≡ values)
 read_4 values (complete z) e = absurd (let n : 0 ≡ 4 = ap number_of e in omega arith)
 read_4 values (at_no_window some u) e = (u, ap values_of e)
-read_4 values (at_fault {fault} some f) e = absurd (let n : fault_number fault ≡ 4 = ap number_of e in let m = over_4 fault in omega arith)
+read_4 values (at_fault {number} some f) e = absurd (let n : number ≡ 4 = ap number_of e in let m = over_4 f in omega arith)
 
 write_4 : {s : State} {ps : List Piece} {stored : List Bool} {a : Answer} (values : List ℕ) → W.WriteEndsWith s ps stored a → a ≡ refusal 4 values
     → (length stored < length ps) × (place_of s (W.nth_piece ps (length stored)).pci ≡ unclaimed) × (W.counts ps stored ≡ values)

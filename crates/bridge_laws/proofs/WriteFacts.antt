@@ -11,7 +11,7 @@ use Rattle.bridge.specs.Bursts.{Burst, Piece, card_write, cut, in_line, pieces, 
 use Rattle.bridge.specs.Calls.{burst_outcome}
 use Rattle.bridge.specs.Pieces.{PieceOutcome, PieceReply, after_piece, no_window, outcome_at_content, outcome_at_place, outcome_written, piece_outcome, words_dismissed, words_stored}
 use Rattle.bridge.specs.declared.faults.BurstFault.{BurstFault}
-use Rattle.bridge_laws.specs.Reads.{FaultAt, at_absent, at_table}
+use Rattle.bridge_laws.specs.Reads.{FaultAt, at_absent}
 use Rattle.bridge.specs.declared.bursts.WriteCounts.{WriteCounts}
 use Rattle.bridge.specs.Runs.{Run, counted, ends, met_no_window, run, run_piece, run_unless, answer_of_write}
 use Rattle.bridge.specs.State.{State}
@@ -19,13 +19,13 @@ use Rattle.bridge.specs.Translation.{Place, place_of, table_fault, target, uncla
 use Rattle.bridge_laws.specs.Writes.{LineAfter, LineServed, Stored, WriteEndsWith, WriteLaw, Writes, at_no_window, before_piece, complete, nth_piece, was_dismissed, was_stored}
 use Rattle.bridge_laws.proofs.CutFacts.{cut_more, cut_none, in_line_some, take_split}
 use Rattle.bridge_laws.proofs.MaskFacts.{line_after}
-use Rattle.bridge_laws.proofs.ReadFacts.{checks_passed}
+use Rattle.bridge_laws.proofs.ReadFacts.{checks_passed, walk_met}
 use Rattle.bridge_laws.proofs.SameLine.{target_low, target_on}
 
 -- what a piece of a write comes to
 data WriteStep (s : State) (p : Piece) (o : PieceOutcome) : Type 0 where
   step_stored : o.reply ≡ words_stored p.count → Stored s (after_piece s o) p → WriteStep s p o
-  step_dismissed : {fault : BurstFault} → o.reply ≡ words_dismissed p.count → FaultAt s p.pci Write fault → (after_piece s o).lines ≡ s.lines → WriteStep s p o
+  step_dismissed : {number line : ℕ} → o.reply ≡ words_dismissed p.count → FaultAt s p.pci Write number line → (after_piece s o).lines ≡ s.lines → WriteStep s p o
   step_unheld : o.reply ≡ no_window → place_of s p.pci ≡ unclaimed → (after_piece s o).lines ≡ s.lines → WriteStep s p o
 
 module _ (s : State) (pci left : ℕ) (aligned : pci % 4 ≡ 0) (words enables : List ℕ) (narrow : wide_enable enables ≡ false) (few : length enables ≤ in_line pci left) (t : LookAside) where
@@ -52,7 +52,7 @@ module _ (s : State) (pci left : ℕ) (aligned : pci % 4 ≡ 0) (words enables :
   at_place : (q : Place) → place_of s pci ≡ q
       → WriteStep s (record { pci = pci; count = in_line pci left; job = writing words enables }) (outcome_at_place t s.control.log s.lines (record { pci = pci; count = in_line pci left; job = writing words enables }) q)
   at_place unclaimed e = step_unheld refl e refl
-  at_place (table_fault fault) e = step_dismissed refl (at_table fault e) refl
+  at_place (table_fault fault) e = step_dismissed refl (walk_met s pci fault e) refl
   at_place (target address) e = at_content address e _ refl
 
 write_step : (s : State) (pci left : ℕ) → pci % 4 ≡ 0 → (words enables : List ℕ) → wide_enable enables ≡ false → length enables ≤ in_line pci left

@@ -3,25 +3,24 @@ use Rattle.std.specs.Prelude.{◌≡◌, ℕ, ◌+◌, ◌-◌, ◌*◌, ◌/◌
 use Rattle.memory.specs.Answers.{Answer, success, refusal}
 use Rattle.memory.specs.Content.{absent, good, spoiled}
 use Rattle.memory.specs.declared.MemoryFault.TheVariants.{Absent, Spoiled}
-use Rattle.bridge.specs.declared.faults.BurstFault.{BurstFault}
-use Rattle.bridge.specs.declared.faults.BurstFault.TheVariants.{Target, Walk}
-use Rattle.bridge.specs.declared.faults.WalkFault.{WalkFault}
+use Rattle.bridge.specs.declared.faults.WalkFault.TheVariants.{Memory, NotValid}
 use Rattle.bridge.specs.declared.log.Direction.{Direction}
 use Rattle.bridge.specs.declared.log.Direction.TheVariants.{Read}
 use Rattle.bridge.specs.Bursts.{Piece, card_read, failed_check, pieces}
 use Rattle.bridge.specs.Calls.{Outcome, card, performed}
-use Rattle.bridge.specs.Faults.{fault_line, fault_number}
 use Rattle.bridge.specs.Longwords.{longword_at}
 use Rattle.bridge.specs.Pieces.{after_piece, piece_outcome}
 use Rattle.bridge.specs.State.{State}
 use Rattle.bridge.specs.Translation.{place_of, table_fault, target, unclaimed}
 
--- the fault that a card meets at a PCI address in a state: that of the table, or the target is absent, or spoiled where it is
--- read
-pub data FaultAt (s : State) (pci : ℕ) : Direction → BurstFault → Type 0 where
-  at_table : {d : Direction} (fault : WalkFault) → place_of s pci ≡ table_fault fault → FaultAt s pci d (Walk fault)
-  at_absent : {d : Direction} (address : ℕ) → place_of s pci ≡ target address → s.lines (address / 32) ≡ absent → FaultAt s pci d (Target (Absent (address / 32)))
-  at_spoiled : (address : ℕ) → place_of s pci ≡ target address → s.lines (address / 32) ≡ spoiled → FaultAt s pci Read (Target (Spoiled (address / 32)))
+-- the fault that a card meets at a PCI address in a state, by its number and line. 5: the table's entry is not valid; 6 and 7: the
+-- table's line is absent or spoiled; 8 and 9: the target's line is absent, or spoiled where it is read.
+pub data FaultAt (s : State) (pci : ℕ) : Direction → ℕ → ℕ → Type 0 where
+  at_entry : {d : Direction} (line : ℕ) → place_of s pci ≡ table_fault (NotValid line) → FaultAt s pci d 5 line
+  at_absent_table : {d : Direction} (line : ℕ) → place_of s pci ≡ table_fault (Memory (Absent line)) → FaultAt s pci d 6 line
+  at_spoiled_table : {d : Direction} (line : ℕ) → place_of s pci ≡ table_fault (Memory (Spoiled line)) → FaultAt s pci d 7 line
+  at_absent : {d : Direction} (address : ℕ) → place_of s pci ≡ target address → s.lines (address / 32) ≡ absent → FaultAt s pci d 8 (address / 32)
+  at_spoiled : (address : ℕ) → place_of s pci ≡ target address → s.lines (address / 32) ≡ spoiled → FaultAt s pci Read 9 (address / 32)
 
 -- the memory has a longword where a PCI address leads
 pub record ReadAt (s : State) (pci word : ℕ) : Type 0 where
@@ -41,7 +40,7 @@ serving s (p ∷ ps) k = cond (nat_lt k p.count) s (serving (after_piece s (piec
 pub data ReadEndsWith (s : State) (pci moved left : ℕ) : Answer → Type 0 where
   complete : left ≡ 0 → ReadEndsWith s pci moved left (success [])
   at_no_window : 0 < left → place_of s pci ≡ unclaimed → ReadEndsWith s pci moved left (refusal 4 (moved ∷ []))
-  at_fault : {fault : BurstFault} → 0 < left → FaultAt s pci Read fault → ReadEndsWith s pci moved left (refusal (fault_number fault) (moved ∷ pci ∷ fault_line fault ∷ []))
+  at_fault : {number line : ℕ} → 0 < left → FaultAt s pci Read number line → ReadEndsWith s pci moved left (refusal number (moved ∷ pci ∷ line ∷ []))
 
 -- a read moves longwords into the first places of its buffer, each from where its address leads in the state in which it is
 -- served, and ends at the first that cannot be moved; the other places and the memory stay

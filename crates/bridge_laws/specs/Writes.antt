@@ -2,7 +2,6 @@
 use Rattle.std.specs.Prelude.{◌≡◌, ℕ, zero, suc, ◌+◌, ◌-◌, ◌*◌, ◌/◌, ◌%◌, ◌<◌, ◌≤◌, Bool, true, false, cond, not, ◌&&◌, List, [], ◌∷◌, length, take, None, sum_by, count_by, ◌≢◌, nat_le, slice_index, slice_index_or}
 use Rattle.memory.specs.Answers.{Answer, success, refusal}
 use Rattle.memory.specs.Content.{Content, bit, good, spoiled}
-use Rattle.bridge.specs.declared.faults.BurstFault.{BurstFault}
 use Rattle.bridge.specs.declared.log.Direction.TheVariants.{Write}
 use Rattle.bridge.specs.Bursts.{Piece, card_write, failed_check, pieces, reading}
 use Rattle.bridge.specs.Calls.{Outcome, card, performed}
@@ -35,7 +34,7 @@ pub record Stored (s t : State) (p : Piece) : Type 0 where
 -- a line is stored, or dismissed for a fault, which changes no line
 pub data LineServed (s t : State) (p : Piece) : Bool → Type 0 where
   was_stored : Stored s t p → LineServed s t p true
-  was_dismissed : {fault : BurstFault} → FaultAt s p.pci Write fault → t.lines ≡ s.lines → LineServed s t p false
+  was_dismissed : {number line : ℕ} → FaultAt s p.pci Write number line → t.lines ≡ s.lines → LineServed s t p false
 
 -- the state in which the piece at an index is served: that after the pieces before it
 abbrev pub before_piece : State → List Piece → ℕ → State

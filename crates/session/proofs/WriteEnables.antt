@@ -19,7 +19,7 @@ use Rattle.session.specs.declared.replies.Reply.{Reply}
 use Rattle.session.specs.declared.replies.Reply.TheVariants.{Refused}
 use Rattle.session.specs.declared.session.Session.{Session}
 use Rattle.session.specs.Replies.{ok_text, reply_answer, reply_text, write_labels}
-use Rattle.session.specs.Sessions.{Does, answer_text, is_kind, served, session_state, write_burst, write_text}
+use Rattle.session.specs.Sessions.{Does, RefusedFor, answer_text, is_kind, served, session_state, write_burst, write_text}
 
 any_true : (a b c : Bool) → c ≡ true → (a || (b || c)) ≡ true
 any_true true b c e = refl
@@ -99,13 +99,14 @@ refused_text Unclaimed = refl
 refused_text (Ended e) = refl
 
 -- the code's answer and state are what a card-write does
-pub write_does : (s t : Session) (pci : ℕ) (pairs : List Pair) (words enables : List ℕ) (r x : Result WriteCounts (BurstRefusal WriteEnd)) (reply : Reply) → words ≡ map (λ (p : Pair). p.longword) pairs → enables ≡ map (λ (p : Pair). min p.enables 255) pairs → write_answered r ≡ (served s (card_write pci (length pairs) words enables)).answer → session_state t ≡ (served s (card_write pci (length pairs) words enables)).state → r ≡ x → is_kind N.CardWrite reply ≡ true → reply_answer reply ≡ write_answered x → reply_text reply ≡ answer_text ok_text write_labels (write_answered x) → Does s (N.CardWrite, (pci, map pair_of pairs)) reply t
-write_does s t pci pairs words enables r x reply w e a after is kind answer text =
+pub write_does : (s t : Session) (pci : ℕ) (pairs : List Pair) (words enables : List ℕ) (r x : Result WriteCounts (BurstRefusal WriteEnd)) (reply : Reply) → words ≡ map (λ (p : Pair). p.longword) pairs → enables ≡ map (λ (p : Pair). min p.enables 255) pairs → write_answered r ≡ (served s (card_write pci (length pairs) words enables)).answer → session_state t ≡ (served s (card_write pci (length pairs) words enables)).state → r ≡ x → is_kind N.CardWrite reply ≡ true → reply_answer reply ≡ write_answered x → reply_text reply ≡ answer_text ok_text write_labels (write_answered x) → RefusedFor (N.CardWrite, (pci, map pair_of pairs)) reply → Does s (N.CardWrite, (pci, map pair_of pairs)) reply t
+write_does s t pci pairs words enables r x reply w e a after is kind answer text refused =
     let same = same_write (session_state s) pci pairs words enables w e in
     let got = ap write_answered (sym is) ∙ a in
     record {
       kind = kind;
       answer = answer ∙ got ∙ ap (λ (o : Outcome). o.answer) same;
       text = text ∙ ap (answer_text ok_text write_labels) got ∙ ap write_text same;
+      refused = refused;
       state = after ∙ ap (λ (o : Outcome). o.state) same;
     }

@@ -1,13 +1,16 @@
 -- A session: its bridge, and what each form answers and leaves.
-use Rattle.std.specs.Prelude.{◌≡◌, ℕ, min, Bool, true, false, cond, List, [], ◌∷◌, map, length, replicate, Ok, Err, Result, ◌==◌, slice_index}
+use Rattle.std.specs.Prelude.{◌≡◌, ℕ, ◌/◌, min, Bool, true, false, cond, List, [], ◌∷◌, map, length, replicate, Ok, Err, Result, ◌==◌, slice_index}
 use Rattle.memory.specs.Answers.{Answer, success, refusal}
 use Rattle.memory.specs.Layers.{lines_laid, lines_under, marks_of}
 use Rattle.memory.specs.Layouts.{from_zero}
 use Rattle.memory.specs.Marked.{lines_marked, mark_answer}
 use Rattle.bridge.specs.declared.decode.Space.{Space}
 use Rattle.bridge.specs.declared.decode.Space.TheVariants.{SparseMemory, DenseMemory, SparseIo, Configuration}
+use Rattle.bridge.specs.declared.registers.RegisterRefusal.TheVariants.{NotListed}
 use Rattle.bridge.specs.Bursts.{Burst, card_read, card_write}
 use Rattle.bridge.specs.Calls.{Outcome, Request, card, decode, log_clear, log_read, performed, processor, register_read, register_write}
+use Rattle.bridge.specs.Processor.{OfLine}
+use Rattle.bridge.specs.Registers.{register_named, write_refusal}
 use Rattle.bridge.specs.State.{State, state_of, with_lines}
 use Rattle.bridge.specs.Words.{space_text}
 use Rattle.session.specs.declared.forms.Name.{Name}
@@ -151,11 +154,21 @@ is_kind N.CardRead (Longwords words) = true
 is_kind N.CardWrite (Counts c) = true
 is_kind name reply = false
 
+-- which refusal it is where number and values do not tell: a memory's fault is that of the line at the address, and a register
+-- call is refused for the number, or because the register can only be read
+abbrev pub RefusedFor : Asked → Reply → Type 0
+RefusedFor (N.CpuStore, (address, value)) (Refused (F.Access e)) = OfLine (address / 32) e
+RefusedFor (N.CpuLoad, address) (Refused (F.Access e)) = OfLine (address / 32) e
+RefusedFor (N.RegRead, register) (Refused (F.Register e)) = e ≡ NotListed
+RefusedFor (N.RegWrite, (register, value)) (Refused (F.Register e)) = e ≡ write_refusal (register_named register)
+RefusedFor asked reply = Unit {0}
+
 -- what a form does: its reply is of its kind, has its answer and prints its text, and that state is left
 pub record Does (before : Session) (asked : Asked) (reply : Reply) (after : Session) : Type 0 where
   pub kind : is_kind asked.0 reply ≡ true
   pub answer : reply_answer reply ≡ form_answer before asked
   pub text : reply_text reply ≡ form_text before asked
+  pub refused : RefusedFor asked reply
   pub state : session_state after ≡ form_state before asked
 
 -- a line is answered as the form that it spells, or with 18, and nothing changes then

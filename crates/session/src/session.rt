@@ -1,10 +1,10 @@
 // A session: a bridge over zero bytes under marks, and what each form does to it.
-ghost use Rattle.std.specs.Prelude.{◌≡◌, min, [], ◌∷◌, map, length, replicate, IfOk, OnErr};
+ghost use Rattle.std.specs.Prelude.{◌≡◌, ◌/◌, min, [], ◌∷◌, map, length, replicate, IfErr, IfOk, OnErr};
 ghost use Rattle.memory.specs.Layouts.{flat};
 ghost use Rattle.memory.specs.Answers.{answered, no_values};
 ghost use Rattle.bridge.specs.Calls.{load, store};
 ghost use Rattle.bridge.specs.Performed.{AnswersRequest, answer_of, request_of};
-ghost use Rattle.bridge.specs.Processor.{access_cause};
+ghost use Rattle.bridge.specs.Processor.{OfLine, access_cause};
 ghost use Rattle.bridge.specs.State.{new_state};
 ghost use Rattle.session.specs.declared.forms.Name.TheVariants as N;
 ghost use Rattle.session.specs.Forms.{asked, pair_of};
@@ -69,6 +69,7 @@ impl Session {
     // The line at an address.
     fn load_line(&mut self, address: u64) -> Result<[u8; 32], AccessRefusal>
         ensures answer { answered (λ bytes. bytes) access_cause result ≡ (requested self.old (load address)).answer }
+        ensures line { IfErr result (OfLine (address / 32)) }
         ensures after { session_state self.new ≡ session_state self.old }
     {
         let CallAnswer::Load(result) = self.request(Request::Load { address }) else {
@@ -80,6 +81,7 @@ impl Session {
     // Stores a line at an address.
     fn store_line(&mut self, address: u64, bytes: [u8; 32]) -> Result<(), AccessRefusal>
         ensures answer { answered no_values access_cause result ≡ (requested self.old (store address bytes)).answer }
+        ensures line { IfErr result (OfLine (address / 32)) }
         ensures after { session_state self.new ≡ (requested self.old (store address bytes)).state }
     {
         let CallAnswer::Store(result) = self.request(Request::Store { address, bytes }) else {
@@ -91,6 +93,7 @@ impl Session {
     // The quadword at an address.
     fn load_quadword(&mut self, address: u64) -> Result<u64, AccessRefusal>
         ensures answer { answered (λ value. value ∷ []) access_cause result ≡ cpu_load (session_state self.old) address }
+        ensures line { IfErr result (OfLine (address / 32)) }
         ensures after { session_state self.new ≡ session_state self.old }
     {
         if address % 8 != 0 {
@@ -103,6 +106,7 @@ impl Session {
     // Stores a quadword at an address, by way of its line.
     fn store_quadword(&mut self, address: u64, value: u64) -> Result<(), AccessRefusal>
         ensures answer { answered no_values access_cause result ≡ (cpu_store (session_state self.old) address value).answer }
+        ensures line { IfErr result (OfLine (address / 32)) }
         ensures after { session_state self.new ≡ (cpu_store (session_state self.old) address value).state }
     {
         if address % 8 != 0 {
