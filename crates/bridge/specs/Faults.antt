@@ -1,15 +1,11 @@
 -- What stops a piece of a burst: each fault's number, and the line that it names.
 use Rattle.std.specs.Prelude.{ℕ}
-use Rattle.memory.specs.declared.MemoryFault.{MemoryFault}
+use Rattle.memory.specs.Content.{memory_line}
 use Rattle.memory.specs.declared.MemoryFault.TheVariants.{Absent, Spoiled}
 use Rattle.bridge.specs.declared.faults.BurstFault.{BurstFault}
 use Rattle.bridge.specs.declared.faults.BurstFault.TheVariants.{Target, Walk}
 use Rattle.bridge.specs.declared.faults.WalkFault.{WalkFault}
 use Rattle.bridge.specs.declared.faults.WalkFault.TheVariants.{Memory, NotValid}
-
-abbrev pub memory_line : MemoryFault → ℕ
-memory_line (Absent line) = line
-memory_line (Spoiled line) = line
 
 -- 5: the table's entry is not valid; 6 and 7: the table's line is absent or spoiled
 abbrev pub walk_number : WalkFault → ℕ

@@ -2,15 +2,20 @@
 use Rattle.std.specs.Prelude.{ℕ, ◌/◌, ◌%◌, Bool, List, Ok, Err, Result}
 use Rattle.memory.specs.Content.{Content, Lines, absent, spoiled, good, written}
 use Rattle.memory.specs.declared.MemoryFault.TheVariants.{Absent, Spoiled}
+use Rattle.bridge.specs.declared.enables.WritePiece.{WritePiece}
 use Rattle.bridge.specs.declared.faults.BurstFault.{BurstFault}
 use Rattle.bridge.specs.declared.faults.BurstFault.TheVariants.{Target, Walk}
 use Rattle.bridge.specs.declared.log.FaultLog.{FaultLog}
 use Rattle.bridge.specs.declared.look_aside.LookAside.{LookAside}
-use Rattle.bridge.specs.Bursts.{Job, Piece, direction, reading, writing}
+use Rattle.bridge.specs.Bursts.{Job, Piece, direction, piece_to_write, reading, writing}
 use Rattle.bridge.specs.Log.{logged}
 use Rattle.bridge.specs.Longwords.{line_bytes, line_mask, longwords}
 use Rattle.bridge.specs.State.{Control, State}
 use Rattle.bridge.specs.Translation.{Located, Place, located, located_claimed, table_fault, target, unclaimed}
+
+-- the piece of a write that the code has
+abbrev pub piece_of : WritePiece → Piece
+piece_of p = piece_to_write p.claimed.pci p.words.now p.enables.numbers.now
 
 -- what is written: nothing, or the masked bytes of one line
 pub data Edit : Type 0 where

@@ -7,7 +7,7 @@ use crate::faults::BurstFault;
 use memory::refusals::Refusal;
 
 // Why a burst is refused: it fails one of three checks, or something ended it.
-#[derive(Clone, Copy, Debug, PartialEq)]
+#[derive(Clone, Copy, Debug, PartialEq, Eq)]
 pub enum BurstRefusal<E> {
     Bounds,
     Alignment,
@@ -16,7 +16,7 @@ pub enum BurstRefusal<E> {
 }
 
 // What ended a read, with the longwords that were moved before: no window holds the next one, or a fault at its PCI address.
-#[derive(Clone, Copy, Debug, PartialEq)]
+#[derive(Clone, Copy, Debug, PartialEq, Eq)]
 pub enum ReadEnd {
     NoWindow {
         moved: usize,
@@ -29,7 +29,7 @@ pub enum ReadEnd {
 }
 
 // Longwords taken, lines stored, lines dismissed.
-#[derive(Clone, Copy, Debug, Default, PartialEq)]
+#[derive(Clone, Copy, Debug, Default, PartialEq, Eq)]
 pub struct WriteCounts {
     pub taken: usize,
     pub stored: usize,
@@ -37,7 +37,7 @@ pub struct WriteCounts {
 }
 
 // What ended a write: no window holds the next longword.
-#[derive(Clone, Copy, Debug, PartialEq)]
+#[derive(Clone, Copy, Debug, PartialEq, Eq)]
 pub struct WriteEnd {
     pub counts: WriteCounts,
 }

@@ -15,7 +15,7 @@ use crate::registers::RegisterRefusal;
 use memory::Memory;
 
 // What the processor asks.
-#[derive(Clone, Copy)]
+#[derive(Clone, Copy, Debug, PartialEq, Eq)]
 pub enum Request {
     RegisterRead { n: u64 },
     RegisterWrite { n: u64, value: u32 },
@@ -50,7 +50,7 @@ pub enum Call {
 }
 
 // What a call answers.
-#[derive(Clone, Copy)]
+#[derive(Clone, Copy, Debug, PartialEq, Eq)]
 pub enum CallAnswer {
     RegisterRead(Result<u32, RegisterRefusal>),
     RegisterWrite(Result<(), RegisterRefusal>),

@@ -14,7 +14,7 @@ use memory::refusals::Refusal;
 use std::fmt;
 
 // The spaces that the processor reaches on the PCI bus.
-#[derive(Clone, Copy, Debug, PartialEq)]
+#[derive(Clone, Copy, Debug, PartialEq, Eq)]
 pub enum Space {
     SparseMemory,
     DenseMemory,
@@ -36,7 +36,7 @@ impl fmt::Display for Space {
 }
 
 // A cycle on the PCI bus: its space, its address, and its enabled lanes, bit j for lane j.
-#[derive(Clone, Copy, Debug, PartialEq)]
+#[derive(Clone, Copy, Debug, PartialEq, Eq)]
 pub struct Cycle {
     pub space: Space,
     pub pci: u32,
@@ -45,7 +45,7 @@ pub struct Cycle {
 
 // Why an address is not decoded: it lies in no region, its length, lane or low bits are not allowed, or HAXR2 names no
 // type of configuration access.
-#[derive(Clone, Copy, Debug, PartialEq)]
+#[derive(Clone, Copy, Debug, PartialEq, Eq)]
 pub enum DecodeRefusal {
     Region,
     Lanes,

@@ -1,7 +1,10 @@
 // The byte enables of a card write: a number for each longword, whose bits 3:0 are for its four bytes.
 ghost use Rattle.std.specs.Prelude.{◌≡◌, ◌+◌, ◌*◌, ◌^◌, ◌<◌, ◌≤◌, false, length};
+ghost use Rattle.bridge.specs.Bits.{bits};
 ghost use Rattle.bridge.specs.Bursts.{wide_enable};
 ghost use Rattle.bridge.specs.Longwords.{enable_bits, line_mask};
+
+use crate::walk::Claimed;
 
 // Whether a number has more than four bits.
 pub(crate) fn any_is_wide(numbers: &[u8]) -> bool
@@ -37,4 +40,13 @@ impl ByteEnables<'_> {
     {
         self.bits() << offset
     }
+}
+
+// The longwords of a write that lie in one line, from a claimed address on, with their byte enables.
+#[derive(Clone, Copy)]
+pub(crate) struct WritePiece<'w, 'e> {
+    pub(crate) claimed: Claimed,
+    pub(crate) words: &'w [u32],
+    pub(crate) enables: ByteEnables<'e>,
+    ghost in_line: { bits 4 2 claimed.pci + length enables.numbers.now ≤ 8 },
 }

@@ -1,20 +1,20 @@
 // What stops a piece of a burst. The fault of the memory is kept whole in that of the walk, and this in the burst's.
 ghost use Rattle.std.specs.Prelude.{◌≡◌};
-ghost use Rattle.bridge.specs.Faults.{fault_line, fault_number, memory_line, walk_line, walk_number};
+ghost use Rattle.bridge.specs.Faults.{fault_line, fault_number, walk_line, walk_number};
 ghost use Rattle.bridge.specs.declared.faults.BurstFault.TheVariants.{Target, Walk};
 ghost use Rattle.bridge.specs.declared.faults.WalkFault.TheVariants.{Memory};
 
 use memory::MemoryFault;
 
 // Why the walk through a table finds no page: the memory refuses the table's line, or the entry is not valid.
-#[derive(Clone, Copy, Debug, PartialEq)]
+#[derive(Clone, Copy, Debug, PartialEq, Eq)]
 pub enum WalkFault {
     Memory(MemoryFault),
     NotValid(u64),
 }
 
 // Why a piece of a burst is not served: its walk finds no page, or the memory refuses the target's line.
-#[derive(Clone, Copy, Debug, PartialEq)]
+#[derive(Clone, Copy, Debug, PartialEq, Eq)]
 pub enum BurstFault {
     Walk(WalkFault),
     Target(MemoryFault),
@@ -44,15 +44,6 @@ impl From<MemoryFault> for BurstFault {
     }
 }
 
-// The line that a memory refuses.
-fn refused_line(fault: &MemoryFault) -> u64
-    ensures { result ≡ memory_line fault.now }
-{
-    match fault {
-        MemoryFault::Absent(line) | MemoryFault::Spoiled(line) => *line,
-    }
-}
-
 impl WalkFault {
     fn number(&self) -> u8
         ensures { result ≡ walk_number self.now }
@@ -70,7 +61,7 @@ impl WalkFault {
     {
         match self {
             WalkFault::NotValid(line) => *line,
-            WalkFault::Memory(fault) => refused_line(fault),
+            WalkFault::Memory(fault) => fault.line(),
         }
     }
 }
@@ -93,7 +84,7 @@ impl BurstFault {
     {
         match self {
             BurstFault::Walk(fault) => fault.line(),
-            BurstFault::Target(fault) => refused_line(fault),
+            BurstFault::Target(fault) => fault.line(),
         }
     }
 }

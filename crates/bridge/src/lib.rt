@@ -6,7 +6,7 @@ pub mod calls;
 pub mod decode;
 mod enables;
 pub mod faults;
-mod line;
+pub mod line;
 pub mod log;
 pub mod look_aside;
 pub mod mark;

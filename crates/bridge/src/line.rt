@@ -1,24 +1,29 @@
 // The bytes of one line, by longword and quadword, low end first.
-ghost use Rattle.std.specs.Prelude.{◌≡◌, ◌+◌, ◌≤◌};
+ghost use Rattle.std.specs.Prelude.{◌≡◌, ◌+◌, ◌*◌, ◌/◌, ◌%◌, ◌≤◌, take, drop};
 ghost use Rattle.bridge.specs.Longwords.{longword_at, quadword_at};
 
 // A place for a line, before one is read into it.
 pub(crate) const BLANK: [u8; 32] = [0; 32];
+
+// The bytes at an offset.
+fn bytes_at<const N: usize>(line: &[u8; 32], offset: usize) -> [u8; N]
+    requires { offset + N ≤ 32 }
+    ensures { result ≡ take N (drop offset line.now) }
+{
+    line[offset..offset + N].try_into().unwrap()
+}
 
 // The longword at an offset.
 pub(crate) fn longword(line: &[u8; 32], offset: usize) -> u32
     requires { offset + 4 ≤ 32 }
     ensures { result ≡ longword_at line.now offset }
 {
-    let bytes: [u8; 4] = line[offset..offset + 4].try_into().unwrap();
-    u32::from_le_bytes(bytes)
+    u32::from_le_bytes(bytes_at(line, offset))
 }
 
-// The quadword at an offset.
-pub(crate) fn quadword(line: &[u8; 32], offset: usize) -> u64
-    requires { offset + 8 ≤ 32 }
-    ensures { result ≡ quadword_at line.now offset }
+// The quadword of a line in which an address lies.
+pub fn quadword(line: &[u8; 32], address: u64) -> u64
+    ensures { result ≡ quadword_at line.now (address % 32 / 8 * 8) }
 {
-    let bytes: [u8; 8] = line[offset..offset + 8].try_into().unwrap();
-    u64::from_le_bytes(bytes)
+    u64::from_le_bytes(bytes_at(line, (address % 32 / 8 * 8) as usize))
 }

@@ -12,7 +12,7 @@ use memory::Memory;
 use std::fmt;
 
 // What a card asked for.
-#[derive(Clone, Copy, Debug, PartialEq)]
+#[derive(Clone, Copy, Debug, PartialEq, Eq)]
 pub enum Direction {
     Read,
     Write,
@@ -30,7 +30,7 @@ impl fmt::Display for Direction {
 }
 
 // A fault, with what the card asked for and the PCI address of the burst's first longword in the line.
-#[derive(Clone, Copy, Debug, PartialEq)]
+#[derive(Clone, Copy, Debug, PartialEq, Eq)]
 pub struct FaultRecord {
     pub fault: BurstFault,
     pub direction: Direction,
@@ -38,7 +38,7 @@ pub struct FaultRecord {
 }
 
 // What a filled log says: the first fault since it was cleared, and whether others came after it.
-#[derive(Clone, Copy, Debug, PartialEq)]
+#[derive(Clone, Copy, Debug, PartialEq, Eq)]
 pub struct LogReading {
     pub first: FaultRecord,
     pub missed: bool,

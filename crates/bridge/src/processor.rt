@@ -16,7 +16,7 @@ use memory::refusals::Refusal;
 use memory::{Memory, MemoryFault};
 
 // Why a load or a store is refused: its address, or by the memory.
-#[derive(Clone, Copy, Debug, PartialEq)]
+#[derive(Clone, Copy, Debug, PartialEq, Eq)]
 pub enum AccessRefusal {
     Address,
     Memory(MemoryFault),

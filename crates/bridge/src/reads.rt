@@ -42,11 +42,7 @@ impl<M: Memory> Bridge<M> {
     }
 
     // Reads a piece of a burst, and logs its fault.
-    pub(crate) fn read_piece(
-        &mut self,
-        claimed: Claimed,
-        words: &mut [u32],
-    ) -> Result<(), BurstFault>
+    fn read_piece(&mut self, claimed: Claimed, words: &mut [u32]) -> Result<(), BurstFault>
         requires { bits 4 2 claimed.pci + length words.old ≤ 8 }
         ensures outcome { outcome_by_read self.new.look_aside self.old.log (piece_to_read claimed.pci words.old) words.new result ≡ outcome_claimed (state_of M.Memory.content self.old) (piece_to_read claimed.pci words.old) claimed.number claimed.mapped }
         ensures kept { OnErr result (words.new ≡ words.old) }
@@ -68,18 +64,24 @@ impl<M: Memory> Bridge<M> {
     {
         let mut moved = 0;
         while moved < count {
-            let pci = pci + 4 * moved as u32;
-            let Some((number, mapped)) = self.registers.claim(pci) else {
+            let here = pci + 4 * moved as u32;
+            let Some((number, mapped)) = self.registers.claim(here) else {
                 return Err(no_window(moved == 0, ReadEnd::NoWindow { moved }));
             };
-            let n = in_line(pci, count - moved);
+            let n = in_line(here, count - moved);
             let claimed = Claimed {
                 number,
                 mapped,
-                pci,
+                pci: here,
             };
             self.read_piece(claimed, &mut buffer[moved..moved + n])
-                .map_err(|fault| BurstRefusal::Ended(ReadEnd::Fault { moved, pci, fault }))?;
+                .map_err(|fault| {
+                    BurstRefusal::Ended(ReadEnd::Fault {
+                        moved,
+                        pci: here,
+                        fault,
+                    })
+                })?;
             moved += n;
         }
         Ok(())

@@ -26,7 +26,7 @@ pub struct Registers {
 
 // A register by what it holds: three of each window by its number, the three host address extension registers, a tag and a
 // data register of each look-aside row by its index, and the one that invalidates all rows.
-#[derive(Clone, Copy, Debug, PartialEq)]
+#[derive(Clone, Copy, Debug, PartialEq, Eq)]
 pub enum Register {
     TranslatedBase(u8),
     PciBase(u8),
@@ -40,7 +40,7 @@ pub enum Register {
 }
 
 // Why a register call is refused: the number names no register, or a write names one that can only be read.
-#[derive(Clone, Copy, Debug, PartialEq)]
+#[derive(Clone, Copy, Debug, PartialEq, Eq)]
 pub enum RegisterRefusal {
     NotListed,
     ReadOnly,

@@ -33,7 +33,7 @@ impl<M: Memory> Bridge<M> {
         let line = address / 32;
         let mut bytes = BLANK;
         self.memory.read(line, &mut bytes)?;
-        let entry = quadword(&bytes, (address % 32) as usize);
+        let entry = quadword(&bytes, address);
         if entry % 2 == 0 {
             return Err(WalkFault::NotValid(line));
         }

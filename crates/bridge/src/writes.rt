@@ -1,18 +1,17 @@
 // Card writes.
 ghost use Rattle.std.specs.Prelude.{◌≡◌, ◌+◌, ◌*◌, ◌%◌, ◌^◌, ◌<◌, ◌≤◌, false, length, take};
-ghost use Rattle.bridge.specs.Bits.{bits};
 ghost use Rattle.bridge.specs.BurstAnswers.{write_answered};
-ghost use Rattle.bridge.specs.Bursts.{card_write, piece_to_write, third_check, wide_enable};
+ghost use Rattle.bridge.specs.Bursts.{card_write, third_check, wide_enable};
 ghost use Rattle.bridge.specs.Calls.{burst_outcome, card, performed, write_outcome};
 ghost use Rattle.bridge.specs.Longwords.{byte_of, line_byte, line_bytes};
-ghost use Rattle.bridge.specs.Pieces.{after_piece, edited, outcome_by_write, outcome_claimed};
+ghost use Rattle.bridge.specs.Pieces.{after_piece, edited, outcome_by_write, outcome_claimed, piece_of};
 ghost use Rattle.bridge.specs.State.{state_of, with_lines, with_rows};
 
 use crate::Bridge;
 use crate::bursts::{
     BurstRefusal, WriteCounts, WriteEnd, WriteRefusal, count_is_wrong, in_line, no_window,
 };
-use crate::enables::{ByteEnables, any_is_wide};
+use crate::enables::{ByteEnables, WritePiece, any_is_wide};
 use crate::faults::BurstFault;
 use crate::line::BLANK;
 use crate::log::Direction;
@@ -50,37 +49,26 @@ fn line_bytes(offset: usize, words: &[u32]) -> [u8; 32]
 
 impl<M: Memory> Bridge<M> {
     // Writes longwords that lie in one line, at an address that a window claims.
-    fn write_line(
-        &mut self,
-        claimed: Claimed,
-        words: &[u32],
-        enables: &ByteEnables,
-    ) -> Result<(), BurstFault>
-        requires { bits 4 2 claimed.pci + length enables.now.numbers.now ≤ 8 }
-        ensures outcome { outcome_by_write self.new.look_aside self.old.log (piece_to_write claimed.pci words.now enables.now.numbers.now) (outcome_claimed (state_of M.Memory.content self.old) (piece_to_write claimed.pci words.now enables.now.numbers.now) claimed.number claimed.mapped).edit result ≡ outcome_claimed (state_of M.Memory.content self.old) (piece_to_write claimed.pci words.now enables.now.numbers.now) claimed.number claimed.mapped }
-        ensures after { state_of M.Memory.content self.new ≡ with_lines (edited (outcome_claimed (state_of M.Memory.content self.old) (piece_to_write claimed.pci words.now enables.now.numbers.now) claimed.number claimed.mapped).edit) (with_rows self.new.look_aside (state_of M.Memory.content self.old)) }
+    fn write_line(&mut self, piece: &WritePiece) -> Result<(), BurstFault>
+        ensures outcome { outcome_by_write self.new.look_aside self.old.log (piece_of piece.now) (outcome_claimed (state_of M.Memory.content self.old) (piece_of piece.now) piece.now.claimed.number piece.now.claimed.mapped).edit result ≡ outcome_claimed (state_of M.Memory.content self.old) (piece_of piece.now) piece.now.claimed.number piece.now.claimed.mapped }
+        ensures after { state_of M.Memory.content self.new ≡ with_lines (edited (outcome_claimed (state_of M.Memory.content self.old) (piece_of piece.now) piece.now.claimed.number piece.now.claimed.mapped).edit) (with_rows self.new.look_aside (state_of M.Memory.content self.old)) }
     {
-        let address = self.translate(claimed)?;
+        let address = self.translate(piece.claimed)?;
         let offset = (address % 32) as usize;
-        let bytes = line_bytes(offset, words);
-        let mask = enables.line_mask(offset);
+        let bytes = line_bytes(offset, piece.words);
+        let mask = piece.enables.line_mask(offset);
         self.memory.write(address / 32, &bytes, mask)?;
         Ok(())
     }
 
     // Writes a piece of a burst, or dismisses it and logs its fault.
-    pub(crate) fn write_piece(
-        &mut self,
-        claimed: Claimed,
-        words: &[u32],
-        enables: &ByteEnables,
-    ) -> Result<(), BurstFault>
-        requires { bits 4 2 claimed.pci + length enables.now.numbers.now ≤ 8 }
-        ensures outcome { outcome_by_write self.new.look_aside self.old.log (piece_to_write claimed.pci words.now enables.now.numbers.now) (outcome_claimed (state_of M.Memory.content self.old) (piece_to_write claimed.pci words.now enables.now.numbers.now) claimed.number claimed.mapped).edit result ≡ outcome_claimed (state_of M.Memory.content self.old) (piece_to_write claimed.pci words.now enables.now.numbers.now) claimed.number claimed.mapped }
-        ensures after { state_of M.Memory.content self.new ≡ after_piece (state_of M.Memory.content self.old) (outcome_claimed (state_of M.Memory.content self.old) (piece_to_write claimed.pci words.now enables.now.numbers.now) claimed.number claimed.mapped) }
+    fn write_piece(&mut self, piece: &WritePiece) -> Result<(), BurstFault>
+        ensures outcome { outcome_by_write self.new.look_aside self.old.log (piece_of piece.now) (outcome_claimed (state_of M.Memory.content self.old) (piece_of piece.now) piece.now.claimed.number piece.now.claimed.mapped).edit result ≡ outcome_claimed (state_of M.Memory.content self.old) (piece_of piece.now) piece.now.claimed.number piece.now.claimed.mapped }
+        ensures after { state_of M.Memory.content self.new ≡ after_piece (state_of M.Memory.content self.old) (outcome_claimed (state_of M.Memory.content self.old) (piece_of piece.now) piece.now.claimed.number piece.now.claimed.mapped) }
     {
-        let served = self.write_line(claimed, words, enables);
-        self.log.note_served(Direction::Write, claimed.pci, served);
+        let served = self.write_line(piece);
+        self.log
+            .note_served(Direction::Write, piece.claimed.pci, served);
         served
     }
 
@@ -104,21 +92,25 @@ impl<M: Memory> Bridge<M> {
         let mut counts = WriteCounts::default();
         while counts.takes_more(count) {
             let first = counts.taken;
-            let pci = pci + 4 * first as u32;
-            let Some((number, mapped)) = self.registers.claim(pci) else {
+            let here = pci + 4 * first as u32;
+            let Some((number, mapped)) = self.registers.claim(here) else {
                 return Err(no_window(first == 0, WriteEnd { counts }));
             };
-            let n = in_line(pci, count - first);
+            let n = in_line(here, count - first);
             let claimed = Claimed {
                 number,
                 mapped,
-                pci,
+                pci: here,
             };
-            let words = &words[first..first + n];
             let enables = ByteEnables {
                 numbers: &enables[first..first + n],
             };
-            let served = self.write_piece(claimed, words, &enables);
+            let piece = WritePiece {
+                claimed,
+                words: &words[first..first + n],
+                enables,
+            };
+            let served = self.write_piece(&piece);
             counts.add(n, served.is_ok());
         }
         Ok(counts)
@@ -138,7 +130,7 @@ impl<M: Memory> Bridge<M> {
         if count_is_wrong(pci, count, words) {
             return Err(BurstRefusal::Bounds);
         }
-        if count > enables.len() || any_is_wide(&enables[0..count]) {
+        if count > enables.len() || any_is_wide(&enables[..count]) {
             return Err(BurstRefusal::Bounds);
         }
         if pci % 4 != 0 {

@@ -36,6 +36,11 @@ is_present absent = false
 is_present spoiled = true
 is_present (good bytes) = true
 
+-- the line that a memory refuses
+abbrev pub memory_line : MemoryFault → ℕ
+memory_line (Absent line) = line
+memory_line (Spoiled line) = line
+
 -- a read refuses absent and spoiled lines, by those names; the place is filled by a good line alone
 abbrev pub read_answer : ℕ → Content → Result Unit MemoryFault
 read_answer line absent = Err (Absent line)

@@ -12,13 +12,24 @@ pub mod refusals;
 pub mod rows;
 
 ghost use Rattle.std.specs.Prelude.{◌≡◌, ℕ};
-ghost use Rattle.memory.specs.Content.{Bounded, Lines, Whole, is_present, read_answer, read_place, write_answer, written};
+ghost use Rattle.memory.specs.Content.{Bounded, Lines, Whole, is_present, memory_line, read_answer, read_place, write_answer, written};
 
 // Why a memory refuses a line, with the line's number.
 #[derive(Clone, Copy, Debug, PartialEq, Eq)]
 pub enum MemoryFault {
     Absent(u64),
     Spoiled(u64),
+}
+
+impl MemoryFault {
+    // The line that is refused.
+    pub fn line(&self) -> u64
+        ensures { result ≡ memory_line self.now }
+    {
+        match self {
+            MemoryFault::Absent(line) | MemoryFault::Spoiled(line) => *line,
+        }
+    }
 }
 
 // A memory is what its lines hold: each is absent, spoiled, or good with 32 bytes. A new kind of memory gives `content`

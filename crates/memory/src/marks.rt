@@ -1,12 +1,14 @@
 // A layer of marked lines over any memory.
-pub mod layer;
+ghost use Rattle.std.specs.Prelude.{◌≡◌, ◌≤◌, [], IfOk, vec_len, vec_capacity, ◌==◌};
+ghost use Rattle.memory.specs.Answers.{answered, no_values};
+ghost use Rattle.memory.specs.Content.{write_answer, written};
+ghost use Rattle.memory.specs.Marked.{Distinct, lines_marked, mark_answer, mark_cause, marked, marks_written, with_mark, without};
+ghost use Rattle.std.proofs.Common.{rules};
 
-ghost use Rattle.std.specs.Prelude.{◌≤◌, vec_len, vec_capacity, ◌==◌};
-ghost use Rattle.memory.specs.Marked.{Distinct, mark_cause};
-
-use crate::Memory;
 use crate::refusals::Refusal;
-use crate::rows::Row;
+use crate::rows::{Row, find};
+use crate::{Memory, MemoryFault};
+use std::alloc::{AllocError, Global};
 
 // At most this many lines are marked.
 const MOST: usize = 32;
@@ -52,4 +54,90 @@ pub struct Marks<M: Memory> {
     ghost room: { 32 ≤ vec_capacity marks },
     ghost few: { vec_len marks ≤ 32 },
     ghost apart: { Distinct marks.items },
+}
+
+impl<M: Memory> Marks<M> {
+    ghost use Rattle.memory.specs.Layers.{lines_under, marks_of};
+
+    // No line is marked yet, so each holds what it holds below.
+    pub fn new(heap: Global, below: M) -> Result<Marks<M>, AllocError>
+    where
+        M: Drop,
+        ensures unmarked { IfOk result (λ m. (marks_of m ≡ []) × (m.below ≡ below)) }
+        ensures content { IfOk result (λ m. lines_under M.Memory.content m ≡ M.Memory.content below) }
+    {
+        let marks = Vec::with_capacity(heap, MOST)?;
+        Ok(Marks { below, marks })
+    }
+
+    fn is_marked(&self, line: u64) -> bool
+        ensures { result ≡ marked (marks_of self.now) line }
+    {
+        find(&self.marks, line).is_some()
+    }
+
+    // Removes the mark of a line, if it has one.
+    fn unmark(&mut self, line: u64)
+        ensures below { self.new.below ≡ self.old.below }
+        ensures marks { marks_of self.new ≡ without (marks_of self.old) line }
+    {
+        if let Some(i) = find(&self.marks, line) {
+            self.marks.remove(i);
+        }
+    }
+
+    // Marks a line that is there. A marked line again adds nothing, and a 33rd is refused.
+    pub fn mark(&mut self, line: u64) -> Result<(), MarkRefusal>
+        ensures answer { answered no_values mark_cause result ≡ mark_answer (marks_of self.old) (M.Memory.content self.old.below) line }
+        ensures below { self.new.below ≡ self.old.below }
+        ensures marks { marks_of self.new ≡ with_mark (answered no_values mark_cause result) (marks_of self.old) line }
+        ensures after { lines_under M.Memory.content self.new ≡ lines_marked (answered no_values mark_cause result) line (lines_under M.Memory.content self.old) }
+    {
+        if !self.below.present(line) {
+            return Err(MarkRefusal::Absent);
+        }
+        if self.is_marked(line) {
+            return Ok(());
+        }
+        if self.marks.len() >= MOST {
+            return Err(MarkRefusal::Full);
+        }
+        self.marks.push_reserved(Mark { line });
+        Ok(())
+    }
+}
+
+impl<M: Memory> Memory for Marks<M> {
+    ghost use Rattle.memory.specs.Layers.{lines_under, marks_of};
+
+    ghost content = { lines_under M.Memory.content };
+
+    ghost beyond = { Prim.search rules };
+
+    ghost whole = { Prim.search rules };
+
+    fn present(&self, line: u64) -> bool {
+        self.below.present(line)
+    }
+
+    fn read(&self, line: u64, place: &mut [u8; 32]) -> Result<(), MemoryFault> {
+        if self.is_marked(line) && self.below.present(line) {
+            return Err(MemoryFault::Spoiled(line));
+        }
+        self.below.read(line, place)
+    }
+
+    // The memory below gets the same write; a full one removes the line's mark.
+    fn write(&mut self, line: u64, bytes: &[u8; 32], mask: u32) -> Result<(), MemoryFault>
+        ensures answer { result ≡ write_answer line (lines_under M.Memory.content self.old line) }
+        ensures after { lines_under M.Memory.content self.new ≡ written line bytes.now mask (lines_under M.Memory.content self.old) }
+        ensures marks { marks_of self.new ≡ marks_written (marks_of self.old) (M.Memory.content self.old.below) line mask }
+        ensures below { M.Memory.content self.new.below ≡ written line bytes.now mask (M.Memory.content self.old.below) }
+    {
+        self.below.write(line, bytes, mask)?;
+        if mask == u32::MAX {
+            self.unmark(line);
+        }
+        Ok(())
+    }
 }

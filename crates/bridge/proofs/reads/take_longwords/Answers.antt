@@ -1,6 +1,5 @@
 use Rattle.std.proofs.Common.{◌+◌, ◌*◌, arith}
 use Rattle.std.proofs.lemmas.List.FromFn.{fill_by_all}
-use Rattle.std.proofs.lemmas.List.Edits.{fill_by_more}
 use Rattle.bridge.specs.Longwords.{longword_at}
 use Rattle.bridge.proofs.reads.take_longwords.Goals as goal
 

@@ -1,7 +1,5 @@
 use Rattle.std.proofs.Common.{arith}
 use Rattle.std.proofs.lemmas.List.FromFn.{fill_by_all}
-use Rattle.std.proofs.lemmas.List.Edits.{fill_by_more}
-use Rattle.std.proofs.lemmas.List.{length-set}
 use Rattle.bridge.specs.Longwords.{line_byte, line_bytes}
 use Rattle.bridge.proofs.writes.line_bytes.Goals as goal
 

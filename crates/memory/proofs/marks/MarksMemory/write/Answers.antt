@@ -2,7 +2,7 @@ use Rattle.std.proofs.Common.{ap, ◌∙◌}
 use Rattle.memory.specs.Marked.{marked}
 use Rattle.memory.proofs.MarkLists.{unmarked}
 use Rattle.memory.proofs.MarkedLines.{full_write}
-use Rattle.memory.proofs.marks.layer.MarksMemory.write.Goals as goal
+use Rattle.memory.proofs.marks.MarksMemory.write.Goals as goal
 
 pub returns-then-mask-eq4294967295-clause-after : goal.returns-then-mask-eq4294967295-clause-after
 returns-then-mask-eq4294967295-clause-after g c =
