@@ -1,6 +1,5 @@
 // Calls as values: they answer as the single calls do.
-use crate::setup::{PLAIN, flat, holds};
-use bridge::bursts::WriteCounts;
+use crate::setup::{PLAIN, counts, flat, holds};
 use bridge::calls::{Burst, Call, CallAnswer, Request, Step};
 use bridge::processor::AccessRefusal;
 use memory::MemoryFault;
@@ -15,10 +14,6 @@ fn asked(request: Request) -> Step {
     to_perform(Call::Processor(request))
 }
 
-fn answer_of(step: &Step) -> Option<CallAnswer> {
-    step.answer
-}
-
 #[test]
 fn a_performed_read_fills_its_buffer(rt: HostRuntime) -> Result<(), Fail> {
     let mut b = flat(rt.alloc(), 64, PLAIN)?;
@@ -28,7 +23,7 @@ fn a_performed_read_fills_its_buffer(rt: HostRuntime) -> Result<(), Fail> {
         count: 1,
         buffer,
     });
-    assert!(rt; matches!(b.perform(&mut call), CallAnswer::CardRead(Ok(()))));
+    assert_eq!(rt; b.perform(&mut call), CallAnswer::CardRead(Ok(())));
     let Call::Card(Burst::CardRead { pci, count, buffer }) = &call else {
         return Err(Fail::new("another call"));
     };
@@ -49,15 +44,8 @@ fn a_performed_write_is_stored(rt: HostRuntime) -> Result<(), Fail> {
         words,
         enables,
     });
-    let CallAnswer::CardWrite(Ok(counts)) = b.perform(&mut call) else {
-        return Err(Fail::new("another answer"));
-    };
-    let WriteCounts {
-        taken,
-        stored,
-        dismissed,
-    } = counts;
-    assert_eq!(rt; (taken, stored, dismissed), (2, 1, 1));
+    let counts = counts(2, 1, 1);
+    assert_eq!(rt; b.perform(&mut call), CallAnswer::CardWrite(Ok(counts)));
     holds(&b, 0x3c, 5)
 }
 
@@ -78,20 +66,14 @@ fn a_run_keeps_each_answer_beside_its_call(rt: HostRuntime) -> Result<(), Fail> 
     ];
     b.run(&mut steps);
     let done = &steps[..];
-    assert!(rt; matches!(answer_of(&done[0]), Some(CallAnswer::RegisterWrite(Ok(())))));
-    assert!(rt;
-        matches!(
-            answer_of(&done[1]),
-            Some(CallAnswer::RegisterRead(Ok(0x5008_0000)))
-        )
+    assert_eq!(rt; done[0].answer, Some(CallAnswer::RegisterWrite(Ok(()))));
+    assert_eq!(rt;
+        done[1].answer,
+        Some(CallAnswer::RegisterRead(Ok(0x5008_0000)))
     );
-    assert!(rt;
-        matches!(
-            answer_of(&done[2]),
-            Some(CallAnswer::Store(Err(AccessRefusal::Memory(MemoryFault::Absent(2)))))
-        )
-    );
-    assert!(rt; matches!(answer_of(&done[3]), Some(CallAnswer::LogRead(None))));
+    let absent = AccessRefusal::Memory(MemoryFault::Absent(2));
+    assert_eq!(rt; done[2].answer, Some(CallAnswer::Store(Err(absent))));
+    assert_eq!(rt; done[3].answer, Some(CallAnswer::LogRead(None)));
     Ok(())
 }
 
@@ -115,18 +97,10 @@ fn a_run_serves_cards_in_order(rt: HostRuntime) -> Result<(), Fail> {
     let mut steps = [to_perform(write), to_perform(read)];
     b.run(&mut steps);
     let done = &steps[..];
-    assert!(rt;
-        matches!(
-            answer_of(&done[0]),
-            Some(CallAnswer::CardWrite(Ok(WriteCounts {
-                taken: 1,
-                stored: 1,
-                dismissed: 0
-            })))
-        )
-    );
+    let counts = counts(1, 1, 0);
+    assert_eq!(rt; done[0].answer, Some(CallAnswer::CardWrite(Ok(counts))));
     let read = &done[1];
-    assert!(rt; matches!(answer_of(read), Some(CallAnswer::CardRead(Ok(())))));
+    assert_eq!(rt; read.answer, Some(CallAnswer::CardRead(Ok(()))));
     let Call::Card(Burst::CardRead { buffer, .. }) = &read.call else {
         return Err(Fail::new("another call"));
     };

@@ -89,16 +89,7 @@ pub(crate) fn banked(
     second: Window,
 ) -> Result<Bridge<Banked>, Fail> {
     let size = 0x2000;
-    let banks = [
-        Bank {
-            base: bases[0],
-            size,
-        },
-        Bank {
-            base: bases[1],
-            size,
-        },
-    ];
+    let banks = bases.map(|base| Bank { base, size });
     let list = BankList::new(&banks, 0x4000)?;
     bridge_over(Banked::zeros(heap, list)?, first, second)
 }
@@ -174,17 +165,11 @@ pub(crate) fn read_answers<M: Memory>(
     }
     let got = b.card_read(pci, count, &mut buffer);
     check(got == answer, format_args!("read at {pci:x}"))?;
+    check(buffer[..n] == moved[..], format_args!("moved from {pci:x}"))?;
     check(
-        buffer[0..n] == moved[..],
-        format_args!("moved from {pci:x}"),
-    )?;
-    for word in &buffer[n..] {
-        check(
-            *word == UNTOUCHED,
-            format_args!("past the moved ones from {pci:x}"),
-        )?;
-    }
-    Ok(())
+        buffer[n..].iter().all(|word| *word == UNTOUCHED),
+        format_args!("past the moved ones from {pci:x}"),
+    )
 }
 
 // A card read is served whole.

@@ -26,10 +26,10 @@ mod tests {
     fn byte<M: Memory>(m: &M, line: u64, i: usize) -> Result<u8, Fail> {
         let mut place = [0xee; 32];
         m.read(line, &mut place)?;
-        if i >= 32 {
-            return Err(Fail::new("no such byte"));
-        }
-        Ok(place[i])
+        place
+            .get(i)
+            .copied()
+            .ok_or_else(|| Fail::new("no such byte"))
     }
 
     #[test]

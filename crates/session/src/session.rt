@@ -15,10 +15,11 @@ ghost use Rattle.session.specs.Sessions.{Answered, Does, InputAnswered, reply_of
 use crate::forms::{Form, Pair, read_form};
 use crate::input::{InputLine, TooLong};
 use crate::lexer::LineError;
-use crate::quadwords::{put_quadword, quadword};
+use crate::quadwords::put_quadword;
 use crate::replies::{FormRefusal, Reply};
 use bridge::Bridge;
 use bridge::calls::{Burst, Call, CallAnswer, Request};
+use bridge::line::quadword;
 use bridge::processor::AccessRefusal;
 use memory::flat::Flat;
 use memory::marks::Marks;
@@ -100,7 +101,7 @@ impl Session {
             return Err(AccessRefusal::Address);
         }
         let line = self.load_line(address / 32 * 32)?;
-        Ok(quadword(&line, (address % 32) as usize))
+        Ok(quadword(&line, address))
     }
 
     // Stores a quadword at an address, by way of its line.
