@@ -2,6 +2,7 @@
 use Rattle.std.proofs.Common.{◌≡◌, ℕ, zero, suc, ◌*◌, ◌/◌, ◌≤◌, Bool, true, false, cond, eqb, List, ◌∷◌, length, get_or, take, replicate, Some, None, sym, refl, ap, ◌∙◌, subst, ap₂, ⊎_elim, arith}
 use Rattle.std.proofs.lemmas.Bool.{both_ways, cases_Bool, cond_both, cond-false, ne_eqb}
 use Rattle.std.proofs.lemmas.Bool.Decides.{nat_tests}
+use Rattle.std.proofs.lemmas.Option.{none-some}
 use Rattle.std.specs.List.{AllByRecursion}
 use Rattle.memory.specs.Content.{Bounded, Content, Lawful, Lines, absent, all_ones, good, overwritten, spoiled, written}
 use Rattle.memory.specs.LinesAt.{merged_full}
@@ -138,8 +139,8 @@ none_held m number pci h =
     both_ways (holds zero_window pci) refl (ap (λ w. holds w pci) (sym same) ∙ h.held)
 
 pub none_valid : (n index page : ℕ) → page_in (get_or (replicate n None) index None) ≡ Some page → ⊥
-none_valid zero index page h = absurd (let z : ◌≡◌ {A = ℕ} 0 1 = cc in omega arith)
-none_valid (suc n) zero page h = absurd (let z : ◌≡◌ {A = ℕ} 0 1 = cc in omega arith)
+none_valid zero index page h = none-some page h
+none_valid (suc n) zero page h = none-some page h
 none_valid (suc n) (suc index) page h = none_valid n index page h
 
 none_open : (m : Lines) (page : ℕ) → Closed (new_state m) page
