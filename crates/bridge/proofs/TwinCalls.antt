@@ -16,6 +16,7 @@ use Rattle.bridge.specs.State.{State, new_state}
 use Rattle.bridge.specs.Windows.{holds}
 use Rattle.bridge.proofs.PieceSteps.{Twin, at_twin, protected_over, protected_within}
 use Rattle.bridge.proofs.Reach.{page_of_line}
+use Rattle.bridge.proofs.RowTables.{not_valid_at}
 use Rattle.bridge.proofs.TwinBursts.{twin_bursts}
 
 -- a store of 32 bytes under a full mask replaces a line that is there
@@ -139,9 +140,7 @@ none_held m number pci h =
     both_ways (holds zero_window pci) refl (ap (λ w. holds w pci) (sym same) ∙ h.held)
 
 pub none_valid : (n index page : ℕ) → page_in (get_or (replicate n None) index None) ≡ Some page → ⊥
-none_valid zero index page h = none-some page h
-none_valid (suc n) zero page h = none-some page h
-none_valid (suc n) (suc index) page h = none_valid n index page h
+none_valid n index page h = none-some page (sym (ap page_in (not_valid_at n index)) ∙ h)
 
 none_open : (m : Lines) (page : ℕ) → Closed (new_state m) page
 none_open m page o =

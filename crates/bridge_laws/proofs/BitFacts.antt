@@ -2,7 +2,8 @@
 use Rattle.std.proofs.Common.{◌≡◌, ℕ, zero, suc, ◌+◌, ◌-◌, ◌*◌, ◌/◌, ◌%◌, ◌^◌, ◌<◌, ◌≤◌, Bool, true, false, not, ◌&&◌, ◌||◌, eqb, ◌⊎◌, sym, refl, ap, ◌∙◌, inl, inr, ⊎_elim, div-one, arith, pow_mono}
 use native.Mathlib.Nat.{div-eq_of_lt, zero-div}
 use lib.Bits.{and_mod, and_shr, bit_and, bit_or, bit_xor, block_half, block_odd, or_mod, or_shr, xor_mod, xor_shr}
-use Rattle.std.proofs.lemmas.Nat.{mod_below, pow-add, pow_pos, shr_high, shr-shr, shr_split}
+use Rattle.std.proofs.Math.Nat.{two-pow-succ}
+use Rattle.std.proofs.lemmas.Nat.{mod_below, pow_pos, shr_high, shr-shr, shr_split}
 use Rattle.memory.specs.Content.{bit}
 use Rattle.bridge.specs.Bits.{bits}
 
@@ -74,21 +75,18 @@ bit_of_xor a b i =
     ∙ digits (λ x y. eqb (bit_xor x y) 1 ≡ differs (eqb x 1) (eqb y 1)) refl refl refl refl (a / 2 ^ i) (b / 2 ^ i)
 
 -- the complement at w bits
-pow_suc_two : (w : ℕ) → 2 ^ suc w ≡ 2 ^ w + 2 ^ w
-pow_suc_two w = let e : suc w ≡ 1 + w = omega arith in let p : 2 ^ (1 + w) ≡ 2 * 2 ^ w = pow-add 2 1 w in ap (λ k. 2 ^ k) e ∙ p ∙ omega arith
-
 complement_odd : (p m : ℕ) → m < p + p → (p + p - 1 - m) % 2 ≡ 1 - m % 2
 complement_odd p m l = omega arith
 
 pub bit_complement : (w m i : ℕ) → m < 2 ^ w → i < w → bit (2 ^ w - 1 - m) i ≡ not (bit m i)
 bit_complement zero m i l h = absurd (omega arith)
 bit_complement (suc w) m zero l h =
-    let p = pow_suc_two w in
+    let p = two-pow-succ w in
     let e : (2 ^ suc w - 1 - m) % 2 ≡ 1 - m % 2 = ap (λ q. (q - 1 - m) % 2) p ∙ complement_odd (2 ^ w) m (omega arith) in
     bit_zero (2 ^ suc w - 1 - m) ∙ ap (λ d. eqb d 1) e
     ∙ digit (λ x. eqb (1 - x) 1 ≡ not (eqb x 1)) refl refl (m % 2) (mod_below m 2 (omega arith)) ∙ ap not (sym (bit_zero m))
 bit_complement (suc w) m (suc i) l h =
-    let p = pow_suc_two w in
+    let p = two-pow-succ w in
     let e : (2 ^ suc w - 1 - m) / 2 ≡ 2 ^ w - 1 - m / 2 = omega arith in
     bit_half (2 ^ suc w - 1 - m) i ∙ ap (λ n. bit n i) e ∙ bit_complement w (m / 2) i (omega arith) (omega arith) ∙ ap not (sym (bit_half m i))
 
@@ -99,7 +97,7 @@ lacks_higher w n (i, l, e) = (suc i, omega arith, bit_half n i ∙ e)
 pub lacks_bit : (w n : ℕ) → n < 2 ^ w → (n ≡ 2 ^ w - 1 → ⊥) → (i : ℕ) × (i < w) × (bit n i ≡ false)
 lacks_bit zero n l ne = absurd (ne (omega arith))
 lacks_bit (suc w) n l ne =
-    let p = pow_suc_two w in
+    let p = two-pow-succ w in
     let q = pow_pos w in
     ⊎_elim
     (λ (e : n % 2 ≡ 0). (0, omega arith, bit_zero n ∙ ap (λ d. eqb d 1) e))

@@ -59,7 +59,8 @@ burst_log : (s : State) (b : Burst) (met : List FaultRecord) → s.control.log �
 burst_log s b met is (Some number) = is ∙ ap log_of (sym (append-nil met))
 burst_log s b met is None = run_log (pieces b) s met is
 
-written_log : (k : Control) (o : Option Register) (v : ℕ) → (control_written k o v).log ≡ k.log
+-- a register write leaves the log
+pub written_log : (k : Control) (o : Option Register) (v : ℕ) → (control_written k o v).log ≡ k.log
 written_log k None v = refl
 written_log k (Some r) v = refl
 

@@ -1,7 +1,7 @@
 -- The register map.
-use Rattle.std.proofs.Common.{◌≡◌, ℕ, zero, suc, ◌+◌, ◌-◌, ◌*◌, ◌^◌, ◌<◌, ◌≤◌, Bool, true, false, cond, ◌&&◌, ◌||◌, eqb, ◌⊎◌, List, [], ◌∷◌, get_or, replicate, Some, None, Option, sym, refl, ap, ◌∙◌, subst, ap₂, inl, inr, ⊎_elim, arith}
+use Rattle.std.proofs.Common.{◌≡◌, ℕ, zero, suc, ◌+◌, ◌-◌, ◌*◌, ◌^◌, ◌<◌, ◌≤◌, Bool, true, false, cond, not, ◌&&◌, ◌||◌, eqb, ◌⊎◌, List, [], ◌∷◌, get_or, replicate, Some, None, Option, sym, refl, ap, ◌∙◌, subst, ap₂, inl, inr, ⊎_elim, arith}
 use Rattle.std.proofs.lemmas.Nat.{pow_pos}
-use Rattle.std.proofs.lemmas.Bool.{and_left, both_ways, cases_Bool, cases_eq, cases_lt, cond-false, cond-true, eq-eqb, ne_eqb}
+use Rattle.std.proofs.lemmas.Bool.{and_left, both_ways, cases_Bool, cases_eq, cases_lt, cond-false, cond-true, eq-eqb, ne_eqb, not-true}
 use Rattle.std.proofs.lemmas.Bool.Decides.{nat_tests}
 use Rattle.memory.specs.Answers.{Answer, success, refusal}
 use Rattle.memory.specs.Content.{bit}
@@ -16,8 +16,11 @@ use Rattle.bridge.specs.declared.registers.Register.{Register}
 use Rattle.bridge.specs.declared.registers.Register.TheVariants.{Haxr0, Haxr1, Haxr2, InvalidateAll, PciBase, PciMask, RowData, RowTag, TranslatedBase}
 use Rattle.bridge.specs.Registers.{data_value, read_only, register_named, register_read_answer, register_value, register_write_answer, tag_value}
 use Rattle.bridge.specs.State.{Control, State}
+use Rattle.bridge.proofs.RowTables.{not_valid_at}
 use Rattle.bridge_laws.proofs.AddressFacts.{bit_of_power}
 use Rattle.bridge_laws.proofs.BitFacts.{bit_beyond, bit_field, bit_high, bit_low, bit_of_zero, field_below}
+use Rattle.bridge_laws.proofs.DecodeFacts.{in_no, in_yes}
+use Rattle.bridge_laws.proofs.LogFacts.{written_log}
 use Rattle.bridge_laws.proofs.RowFacts.{invalidates_by_32, left_unless}
 
 -- the bits of a field at its place
@@ -27,19 +30,13 @@ bit_kept high low v i h =
     let at : bits_kept high low v ≡ x * 2 ^ low + 0 = omega arith in
     ap (λ n. bit n i) at
     ∙ ⊎_elim
-    (λ l. bit_low i low x 0 l ∙ bit_of_zero i ∙ ap (λ b. b && bit v i) (sym (out i (inl l))))
+    (λ l. bit_low i low x 0 l ∙ bit_of_zero i ∙ ap (λ b. b && bit v i) (sym (in_no low high i (inl l))))
     (λ g. bit_high i low x 0 (pow_pos low) g
     ∙ ⊎_elim
-    (λ l. let e : low + (i - low) ≡ i = omega arith in bit_field high low v (i - low) l ∙ ap (bit v) e ∙ ap (λ b. b && bit v i) (sym (inside i g (omega arith))))
-    (λ k. bit_beyond (i - low) (high + 1 - low) x (field_below high low v) k ∙ ap (λ b. b && bit v i) (sym (out i (inr (omega arith)))))
+    (λ l. let e : low + (i - low) ≡ i = omega arith in bit_field high low v (i - low) l ∙ ap (bit v) e ∙ ap (λ b. b && bit v i) (sym (in_yes low high i g (omega arith))))
+    (λ k. bit_beyond (i - low) (high + 1 - low) x (field_below high low v) k ∙ ap (λ b. b && bit v i) (sym (in_no low high i (inr (omega arith)))))
     (cases_lt (i - low) (high + 1 - low)))
     (cases_lt i low)
-  where
-    out : (i : ℕ) → (i < low) ⊎ (high < i) → in_range low high i ≡ false
-    out i o = grind (arith, nat_tests)
-
-    inside : (i : ℕ) → low ≤ i → i ≤ high → in_range low high i ≡ true
-    inside i g l = grind (arith, nat_tests)
 
 -- HAXR2 keeps two fields
 haxr2_bit : (v i : ℕ) → bit (bits_kept 31 24 v + bits_kept 1 0 v) i ≡ ((in_range 24 31 i || in_range 0 1 i) && bit v i)
@@ -116,15 +113,8 @@ module _ (v : ℕ) where
 -- the registers that the rows alone decide, with the numbers that name none
 abbrev by_rows : Option Register → Bool
 by_rows None = true
-by_rows (Some (TranslatedBase number)) = false
-by_rows (Some (PciBase number)) = false
-by_rows (Some (PciMask number)) = false
-by_rows (Some Haxr0) = false
-by_rows (Some Haxr1) = false
-by_rows (Some Haxr2) = false
-by_rows (Some (RowTag i)) = true
-by_rows (Some (RowData i)) = true
 by_rows (Some InvalidateAll) = true
+by_rows (Some r) = read_only r
 
 rows_decide : (r q : Registers) (t : LookAside) (o : Option Register) → by_rows o ≡ true → register_read_answer r t o ≡ register_read_answer q t o
 rows_decide r q t None h = refl
@@ -144,15 +134,7 @@ not_by_rows n h = (grind (arith, nat_tests), grind (arith, nat_tests))
 -- the registers that can be written
 abbrev can_write : Option Register → Bool
 can_write None = false
-can_write (Some (TranslatedBase number)) = true
-can_write (Some (PciBase number)) = true
-can_write (Some (PciMask number)) = true
-can_write (Some Haxr0) = true
-can_write (Some Haxr1) = true
-can_write (Some Haxr2) = true
-can_write (Some (RowTag i)) = false
-can_write (Some (RowData i)) = false
-can_write (Some InvalidateAll) = true
+can_write (Some r) = not (read_only r)
 
 can_write_named : (n : ℕ) → can_write (register_named n) ≡ (in_range 6 14 n || eqb n 32)
 can_write_named n = grind (arith, nat_tests)
@@ -164,34 +146,16 @@ named_none n h = grind (arith, nat_tests)
 module _ (k : Control) (v : ℕ) where
   unwritten : (o : Option Register) → can_write o ≡ false → (control_written k o v ≡ k) × (register_write_answer o ≡ refusal 10 [])
   unwritten None h = (refl, refl)
-  unwritten (Some (TranslatedBase number)) h = absurd (both_ways true h refl)
-  unwritten (Some (PciBase number)) h = absurd (both_ways true h refl)
-  unwritten (Some (PciMask number)) h = absurd (both_ways true h refl)
-  unwritten (Some Haxr0) h = absurd (both_ways true h refl)
-  unwritten (Some Haxr1) h = absurd (both_ways true h refl)
-  unwritten (Some Haxr2) h = absurd (both_ways true h refl)
   unwritten (Some (RowTag i)) h = (refl, refl)
   unwritten (Some (RowData i)) h = (refl, refl)
-  unwritten (Some InvalidateAll) h = absurd (both_ways true h refl)
-
-  log_stays : (o : Option Register) → (control_written k o v).log ≡ k.log
-  log_stays None = refl
-  log_stays (Some r) = refl
+  unwritten (Some r) h = absurd (both_ways true h refl)
 
 answers_write : (o : Option Register) → can_write o ≡ true → register_write_answer o ≡ success []
 answers_write None h = absurd (both_ways false refl h)
-answers_write (Some (TranslatedBase number)) h = refl
-answers_write (Some (PciBase number)) h = refl
-answers_write (Some (PciMask number)) h = refl
-answers_write (Some Haxr0) h = refl
-answers_write (Some Haxr1) h = refl
-answers_write (Some Haxr2) h = refl
-answers_write (Some (RowTag i)) h = absurd (both_ways false refl h)
-answers_write (Some (RowData i)) h = absurd (both_ways false refl h)
-answers_write (Some InvalidateAll) h = refl
+answers_write (Some r) h = cond-false (read_only r) _ _ (not-true (read_only r) h)
 
 never_both : (a : Answer) (values : List ℕ) → a ≡ success values → a ≡ refusal 10 [] → ⊥
-never_both a values e f = let z : ◌≡◌ {A = ℕ} 0 1 = cc in omega arith
+never_both a values e f = cc
 
 writable_named : (n : ℕ) → can_write (register_named n) ≡ true → Writable n
 writable_named n h = let t = sym (can_write_named n) ∙ h in (listed t, λ r. other t r.0 r.1)
@@ -239,11 +203,6 @@ write_refused s n v = record {
     cannot h = ⊎_elim (λ t. absurd (h (writable_named n t))) (λ f. f) (cases_Bool (can_write (register_named n)))
 
 -- the zero rows read 0
-zero_at : (n i : ℕ) → get_or {A = Option LookAsideRow} (replicate n None) i None ≡ None
-zero_at zero i = refl
-zero_at (suc n) zero = refl
-zero_at (suc n) (suc i) = zero_at n i
-
 abbrev is_row : Option Register → Bool
 is_row None = false
 is_row (Some r) = read_only r
@@ -259,8 +218,8 @@ reads_zero r (Some (PciMask number)) h = absurd (both_ways false refl h)
 reads_zero r (Some Haxr0) h = absurd (both_ways false refl h)
 reads_zero r (Some Haxr1) h = absurd (both_ways false refl h)
 reads_zero r (Some Haxr2) h = absurd (both_ways false refl h)
-reads_zero r (Some (RowTag i)) h = ap (λ (x : Option LookAsideRow). success (tag_value x ∷ [])) (zero_at 8 i)
-reads_zero r (Some (RowData i)) h = ap (λ (x : Option LookAsideRow). success (data_value x ∷ [])) (zero_at 8 i)
+reads_zero r (Some (RowTag i)) h = ap (λ (x : Option LookAsideRow). success (tag_value x ∷ [])) (not_valid_at 8 i)
+reads_zero r (Some (RowData i)) h = ap (λ (x : Option LookAsideRow). success (data_value x ∷ [])) (not_valid_at 8 i)
 reads_zero r (Some InvalidateAll) h = absurd (both_ways false refl h)
 
 -- what a read that the rows do not decide answers
@@ -310,7 +269,7 @@ leaves s n v = record {
   zeroed = λ e m r. let P : ℕ → Type 0 = λ x. read_of (after_write s x v) m ≡ success (0 ∷ []) in subst P (sym e) (reads_zero s.control.registers (register_named m) (row_named m r));
   rows_zero = λ e. let P : ℕ → Type 0 = λ x. (after_write s x v).control.look_aside ≡ zero_rows in subst P (sym e) refl;
   rows = λ n32. left_unless s.control v (register_named n) (λ e. n32 (invalidates_by_32 n e));
-  log = log_stays s.control v (register_named n);
+  log = written_log s.control (register_named n) v;
   lines = refl;
 }
 
@@ -332,19 +291,13 @@ bit_moved high k n i =
     let at : x * 2 ^ k ≡ x * 2 ^ k + 0 = omega arith in
     ap (λ m. bit m i) at
     ∙ ⊎_elim
-    (λ l. bit_low i k x 0 l ∙ bit_of_zero i ∙ ap (λ b. b && bit n (i - k)) (sym (out i (inl l))))
+    (λ l. bit_low i k x 0 l ∙ bit_of_zero i ∙ ap (λ b. b && bit n (i - k)) (sym (in_no k (k + high) i (inl l))))
     (λ g. bit_high i k x 0 (pow_pos k) g
     ∙ ⊎_elim
-    (λ l. let e : 0 + (i - k) ≡ i - k = omega arith in bit_field high 0 n (i - k) l ∙ ap (bit n) e ∙ ap (λ b. b && bit n (i - k)) (sym (inside i g (omega arith))))
-    (λ h. bit_beyond (i - k) (high + 1 - 0) x (field_below high 0 n) h ∙ ap (λ b. b && bit n (i - k)) (sym (out i (inr (omega arith)))))
+    (λ l. let e : 0 + (i - k) ≡ i - k = omega arith in bit_field high 0 n (i - k) l ∙ ap (bit n) e ∙ ap (λ b. b && bit n (i - k)) (sym (in_yes k (k + high) i g (omega arith))))
+    (λ h. bit_beyond (i - k) (high + 1 - 0) x (field_below high 0 n) h ∙ ap (λ b. b && bit n (i - k)) (sym (in_no k (k + high) i (inr (omega arith)))))
     (cases_lt (i - k) (high + 1 - 0)))
     (cases_lt i k)
-  where
-    out : (i : ℕ) → (i < k) ⊎ (k + high < i) → in_range k (k + high) i ≡ false
-    out i o = grind (arith, nat_tests)
-
-    inside : (i : ℕ) → k ≤ i → i ≤ k + high → in_range k (k + high) i ≡ true
-    inside i g l = grind (arith, nat_tests)
 
 -- a tag: the valid bit below the page
 below_12 : (x r q : Bool) → r ≡ false → x ≡ cond x true (r && q)
