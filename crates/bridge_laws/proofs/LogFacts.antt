@@ -65,13 +65,9 @@ written_log k None v = refl
 written_log k (Some r) v = refl
 
 call_log : (c : Call) (s : State) (met : List FaultRecord) → s.control.log ≡ log_of met → (performed s c).state.control.log ≡ log_of (faults_then met s c)
-call_log (processor (register_read n)) s met is = is
 call_log (processor (register_write n v)) s met is = written_log s.control (register_named n) v ∙ is
-call_log (processor (load address)) s met is = is
-call_log (processor (store address bytes)) s met is = is
-call_log (processor (decode cpu)) s met is = is
-call_log (processor log_read) s met is = is
 call_log (processor log_clear) s met is = refl
+call_log (processor q) s met is = is
 call_log (card b) s met is = burst_log s b met is (failed_check s.control.registers b)
 
 calls_log : (cs : List Call) (s : State) (met : List FaultRecord) → s.control.log ≡ log_of met → (after s cs).control.log ≡ log_of (faults_since met s cs)

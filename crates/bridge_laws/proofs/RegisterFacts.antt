@@ -118,15 +118,10 @@ by_rows (Some r) = read_only r
 
 rows_decide : (r q : Registers) (t : LookAside) (o : Option Register) → by_rows o ≡ true → register_read_answer r t o ≡ register_read_answer q t o
 rows_decide r q t None h = refl
-rows_decide r q t (Some (TranslatedBase number)) h = absurd (both_ways false refl h)
-rows_decide r q t (Some (PciBase number)) h = absurd (both_ways false refl h)
-rows_decide r q t (Some (PciMask number)) h = absurd (both_ways false refl h)
-rows_decide r q t (Some Haxr0) h = absurd (both_ways false refl h)
-rows_decide r q t (Some Haxr1) h = absurd (both_ways false refl h)
-rows_decide r q t (Some Haxr2) h = absurd (both_ways false refl h)
 rows_decide r q t (Some (RowTag i)) h = refl
 rows_decide r q t (Some (RowData i)) h = refl
 rows_decide r q t (Some InvalidateAll) h = refl
+rows_decide r q t (Some register) h = absurd (both_ways false refl h)
 
 not_by_rows : (n : ℕ) → by_rows (register_named n) ≡ false → FromTo 6 14 n
 not_by_rows n h = (grind (arith, nat_tests), grind (arith, nat_tests))
@@ -211,29 +206,15 @@ row_named : (m : ℕ) → RowRegister m → is_row (register_named m) ≡ true
 row_named m (g, l) = grind (arith, nat_tests)
 
 reads_zero : (r : Registers) (o : Option Register) → is_row o ≡ true → register_read_answer r zero_rows o ≡ success (0 ∷ [])
-reads_zero r None h = absurd (both_ways false refl h)
-reads_zero r (Some (TranslatedBase number)) h = absurd (both_ways false refl h)
-reads_zero r (Some (PciBase number)) h = absurd (both_ways false refl h)
-reads_zero r (Some (PciMask number)) h = absurd (both_ways false refl h)
-reads_zero r (Some Haxr0) h = absurd (both_ways false refl h)
-reads_zero r (Some Haxr1) h = absurd (both_ways false refl h)
-reads_zero r (Some Haxr2) h = absurd (both_ways false refl h)
 reads_zero r (Some (RowTag i)) h = ap (λ (x : Option LookAsideRow). success (tag_value x ∷ [])) (not_valid_at 8 i)
 reads_zero r (Some (RowData i)) h = ap (λ (x : Option LookAsideRow). success (data_value x ∷ [])) (not_valid_at 8 i)
-reads_zero r (Some InvalidateAll) h = absurd (both_ways false refl h)
+reads_zero r o h = absurd (both_ways false refl h)
 
 -- what a read that the rows do not decide answers
 not_rows_decide : (r : Registers) (t u : LookAside) (o : Option Register) → is_row o ≡ false → register_read_answer r t o ≡ register_read_answer r u o
-not_rows_decide r t u None h = refl
-not_rows_decide r t u (Some (TranslatedBase number)) h = refl
-not_rows_decide r t u (Some (PciBase number)) h = refl
-not_rows_decide r t u (Some (PciMask number)) h = refl
-not_rows_decide r t u (Some Haxr0) h = refl
-not_rows_decide r t u (Some Haxr1) h = refl
-not_rows_decide r t u (Some Haxr2) h = refl
 not_rows_decide r t u (Some (RowTag i)) h = absurd (both_ways true h refl)
 not_rows_decide r t u (Some (RowData i)) h = absurd (both_ways true h refl)
-not_rows_decide r t u (Some InvalidateAll) h = refl
+not_rows_decide r t u o h = refl
 
 named_row : (m : ℕ) → is_row (register_named m) ≡ true → RowRegister m
 named_row m h = (grind (arith, nat_tests), grind (arith, nat_tests))

@@ -94,37 +94,16 @@ invalidates_by_32 n e = grind (arith, nat_tests)
 -- a register write leaves the rows, unless it is that one
 module _ (k : Control) (v : ℕ) where
   pub left_unless : (o : Option Register) → (o ≡ Some InvalidateAll → ⊥) → (control_written k o v).look_aside ≡ k.look_aside
-  left_unless None ne = refl
-  left_unless (Some (TranslatedBase number)) ne = refl
-  left_unless (Some (PciBase number)) ne = refl
-  left_unless (Some (PciMask number)) ne = refl
-  left_unless (Some Haxr0) ne = refl
-  left_unless (Some Haxr1) ne = refl
-  left_unless (Some Haxr2) ne = refl
-  left_unless (Some (RowTag i)) ne = refl
-  left_unless (Some (RowData i)) ne = refl
   left_unless (Some InvalidateAll) ne = absurd (ne refl)
+  left_unless o ne = refl
 
   left_or_zero : (o : Option Register) → ((control_written k o v).look_aside ≡ k.look_aside) ⊎ ((control_written k o v).look_aside ≡ zero_rows)
-  left_or_zero None = inl refl
-  left_or_zero (Some (TranslatedBase number)) = inl refl
-  left_or_zero (Some (PciBase number)) = inl refl
-  left_or_zero (Some (PciMask number)) = inl refl
-  left_or_zero (Some Haxr0) = inl refl
-  left_or_zero (Some Haxr1) = inl refl
-  left_or_zero (Some Haxr2) = inl refl
-  left_or_zero (Some (RowTag i)) = inl refl
-  left_or_zero (Some (RowData i)) = inl refl
   left_or_zero (Some InvalidateAll) = inr refl
+  left_or_zero o = inl refl
 
 call_rows : (c : Call) (s : State) → LeavesRows c → From s.control.look_aside (performed s c).state.control.look_aside
-call_rows (processor (register_read n)) s l = from_refl s.control.look_aside
 call_rows (processor (register_write n v)) s l = subst (From s.control.look_aside) (sym (left_unless s.control v (register_named n) (λ e. l (invalidates_by_32 n e)))) (from_refl s.control.look_aside)
-call_rows (processor (load address)) s l = from_refl s.control.look_aside
-call_rows (processor (store address bytes)) s l = from_refl s.control.look_aside
-call_rows (processor (decode cpu)) s l = from_refl s.control.look_aside
-call_rows (processor log_read) s l = from_refl s.control.look_aside
-call_rows (processor log_clear) s l = from_refl s.control.look_aside
+call_rows (processor q) s l = from_refl s.control.look_aside
 call_rows (card b) s l = burst_rows s b (failed_check s.control.registers b)
 
 rows_last : RowsLast
@@ -142,14 +121,9 @@ zero_filled : AllFilled zero_rows
 zero_filled i v = absurd (false≢true (sym (ap is_some (not_valid_at 8 i)) ∙ v))
 
 call_filled : (c : Call) (s : State) → AllFilled s.control.look_aside → AllFilled (performed s c).state.control.look_aside
-call_filled (processor (register_read n)) s f = f
 call_filled (processor (register_write n v)) s f =
     ⊎_elim (λ e. subst AllFilled (sym e) f) (λ e. subst AllFilled (sym e) zero_filled) (left_or_zero s.control v (register_named n))
-call_filled (processor (load address)) s f = f
-call_filled (processor (store address bytes)) s f = f
-call_filled (processor (decode cpu)) s f = f
-call_filled (processor log_read) s f = f
-call_filled (processor log_clear) s f = f
+call_filled (processor q) s f = f
 call_filled (card b) s f = filled_from s.control.look_aside (burst_outcome s b (failed_check s.control.registers b)).state.control.look_aside f (burst_rows s b (failed_check s.control.registers b))
 
 calls_filled : (cs : List Call) (s : State) → AllFilled s.control.look_aside → AllFilled (after s cs).control.look_aside
