@@ -6,7 +6,7 @@ use Rattle.bridge.specs.declared.log.FaultLog.{FaultLog}
 use Rattle.bridge.specs.declared.log.FaultRecord.{FaultRecord}
 use Rattle.bridge.specs.declared.look_aside.LookAside.{LookAside}
 use Rattle.bridge.specs.Bursts.{Burst, Job, Piece, failed_check, pieces, reading, writing}
-use Rattle.bridge.specs.Calls.{Call, burst_outcome, card, control_written, decode, load, log_clear, log_read, performed, processor, register_read, register_write, store}
+use Rattle.bridge.specs.Calls.{Call, burst_outcome, card, control_written, log_clear, performed, processor, register_write}
 use Rattle.bridge.specs.Isolation.{after}
 use Rattle.bridge.specs.Log.{logged}
 use Rattle.bridge_laws.specs.LogRuns.{LogKeepsTheFirst, burst_faults, faults_at, faults_since, faults_then, log_of, run_faults, target_faults}

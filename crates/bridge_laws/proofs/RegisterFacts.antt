@@ -1,5 +1,5 @@
 -- The register map.
-use Rattle.std.proofs.Common.{◌≡◌, ℕ, zero, suc, ◌+◌, ◌-◌, ◌*◌, ◌^◌, ◌<◌, ◌≤◌, Bool, true, false, cond, not, ◌&&◌, ◌||◌, eqb, ◌⊎◌, List, [], ◌∷◌, get_or, replicate, Some, None, Option, sym, refl, ap, ◌∙◌, subst, ap₂, inl, inr, ⊎_elim, arith}
+use Rattle.std.proofs.Common.{◌≡◌, ℕ, zero, suc, ◌+◌, ◌-◌, ◌*◌, ◌^◌, ◌<◌, ◌≤◌, Bool, true, false, cond, not, ◌&&◌, ◌||◌, eqb, List, [], ◌∷◌, Some, None, Option, sym, refl, ap, ◌∙◌, subst, ap₂, inl, inr, ⊎_elim, add-zero, arith}
 use Rattle.std.proofs.lemmas.Nat.{pow_pos}
 use Rattle.std.proofs.lemmas.Bool.{and_left, both_ways, cases_Bool, cases_eq, cases_lt, cond-false, cond-true, eq-eqb, ne_eqb, not-true}
 use Rattle.std.proofs.lemmas.Bool.Decides.{nat_tests}
@@ -13,7 +13,7 @@ use Rattle.bridge.specs.Calls.{Outcome, control_written, processor, register_rea
 use Rattle.bridge.specs.LookAside.{row, zero_rows}
 use Rattle.bridge_laws.specs.RegisterMap.{FromTo, Leaves, Listed, Parts, ReadsBack, RefusedWith10, RegisterMap, RowRegister, Writable, after_write, data_bit, kept_bit, read_of, tag_bit}
 use Rattle.bridge.specs.declared.registers.Register.{Register}
-use Rattle.bridge.specs.declared.registers.Register.TheVariants.{Haxr0, Haxr1, Haxr2, InvalidateAll, PciBase, PciMask, RowData, RowTag, TranslatedBase}
+use Rattle.bridge.specs.declared.registers.Register.TheVariants.{InvalidateAll, RowData, RowTag}
 use Rattle.bridge.specs.Registers.{data_value, read_only, register_named, register_read_answer, register_value, register_write_answer, tag_value}
 use Rattle.bridge.specs.State.{Control, State}
 use Rattle.bridge.proofs.RowTables.{not_valid_at}
@@ -23,20 +23,23 @@ use Rattle.bridge_laws.proofs.DecodeFacts.{in_no, in_yes}
 use Rattle.bridge_laws.proofs.LogFacts.{written_log}
 use Rattle.bridge_laws.proofs.RowFacts.{invalidates_by_32, left_unless}
 
--- the bits of a field at its place
-bit_kept : (high low v i : ℕ) → low ≤ high → bit (bits_kept high low v) i ≡ (in_range low high i && bit v i)
-bit_kept high low v i h =
+-- the bits of a field, from k up to top
+bit_moved : (high low k top v i j : ℕ) → low ≤ high → top ≡ k + (high - low) → (k ≤ i → low + (i - k) ≡ j) → bit (bits high low v * 2 ^ k) i ≡ (in_range k top i && bit v j)
+bit_moved high low k top v i j h t place =
     let x = bits high low v in
-    let at : bits_kept high low v ≡ x * 2 ^ low + 0 = omega arith in
-    ap (λ n. bit n i) at
+    ap (λ n. bit n i) (sym (add-zero (x * 2 ^ k)))
     ∙ ⊎_elim
-    (λ l. bit_low i low x 0 l ∙ bit_of_zero i ∙ ap (λ b. b && bit v i) (sym (in_no low high i (inl l))))
-    (λ g. bit_high i low x 0 (pow_pos low) g
+    (λ l. bit_low i k x 0 l ∙ bit_of_zero i ∙ ap (λ b. b && bit v j) (sym (in_no k top i (inl l))))
+    (λ g. bit_high i k x 0 (pow_pos k) g
     ∙ ⊎_elim
-    (λ l. let e : low + (i - low) ≡ i = omega arith in bit_field high low v (i - low) l ∙ ap (bit v) e ∙ ap (λ b. b && bit v i) (sym (in_yes low high i g (omega arith))))
-    (λ k. bit_beyond (i - low) (high + 1 - low) x (field_below high low v) k ∙ ap (λ b. b && bit v i) (sym (in_no low high i (inr (omega arith)))))
-    (cases_lt (i - low) (high + 1 - low)))
-    (cases_lt i low)
+    (λ l. bit_field high low v (i - k) l ∙ ap (bit v) (place g) ∙ ap (λ b. b && bit v j) (sym (in_yes k top i g (omega arith))))
+    (λ m. bit_beyond (i - k) (high + 1 - low) x (field_below high low v) m ∙ ap (λ b. b && bit v j) (sym (in_no k top i (inr (omega arith)))))
+    (cases_lt (i - k) (high + 1 - low)))
+    (cases_lt i k)
+
+-- the bits of a field at its own place
+bit_kept : (high low v i : ℕ) → low ≤ high → bit (bits_kept high low v) i ≡ (in_range low high i && bit v i)
+bit_kept high low v i h = bit_moved high low low high v i i h (omega arith) (λ g. omega arith)
 
 -- HAXR2 keeps two fields
 haxr2_bit : (v i : ℕ) → bit (bits_kept 31 24 v + bits_kept 1 0 v) i ≡ ((in_range 24 31 i || in_range 0 1 i) && bit v i)
@@ -44,13 +47,10 @@ haxr2_bit v i =
     let low : bits_kept 1 0 v < 2 ^ 24 = let l = field_below 1 0 v in omega arith in
     ⊎_elim
     (λ l. bit_low i 24 (bits 31 24 v) (bits_kept 1 0 v) l ∙ bit_kept 1 0 v i (omega arith) ∙ ap (λ b. b && bit v i) (below i l))
-    (λ g. bit_high i 24 (bits 31 24 v) (bits_kept 1 0 v) low g ∙ sym (bit_high i 24 (bits 31 24 v) 0 (omega arith) g) ∙ ap (λ n. bit n i) (alone (bits 31 24 v))
+    (λ g. bit_high i 24 (bits 31 24 v) (bits_kept 1 0 v) low g ∙ sym (bit_high i 24 (bits 31 24 v) 0 (omega arith) g) ∙ ap (λ n. bit n i) (add-zero (bits 31 24 v * 2 ^ 24))
     ∙ bit_kept 31 24 v i (omega arith) ∙ ap (λ b. b && bit v i) (above i g))
     (cases_lt i 24)
   where
-    alone : (x : ℕ) → x * 2 ^ 24 + 0 ≡ x * 2 ^ 24
-    alone x = omega arith
-
     below : (i : ℕ) → i < 24 → in_range 0 1 i ≡ (in_range 24 31 i || in_range 0 1 i)
     below i l = grind (arith, nat_tests)
 
@@ -265,21 +265,6 @@ reads_back s n v w =
     record { succeeds = answers_write (register_named n) (named_writable n w); value = kept_value n v; read = reads_back_low s n v l; bits = kept_value_bits v n l })
     (cases_eq n 32)
 
--- the low bits of a number, k places up
-bit_moved : (high k n i : ℕ) → bit (bits high 0 n * 2 ^ k) i ≡ (in_range k (k + high) i && bit n (i - k))
-bit_moved high k n i =
-    let x = bits high 0 n in
-    let at : x * 2 ^ k ≡ x * 2 ^ k + 0 = omega arith in
-    ap (λ m. bit m i) at
-    ∙ ⊎_elim
-    (λ l. bit_low i k x 0 l ∙ bit_of_zero i ∙ ap (λ b. b && bit n (i - k)) (sym (in_no k (k + high) i (inl l))))
-    (λ g. bit_high i k x 0 (pow_pos k) g
-    ∙ ⊎_elim
-    (λ l. let e : 0 + (i - k) ≡ i - k = omega arith in bit_field high 0 n (i - k) l ∙ ap (bit n) e ∙ ap (λ b. b && bit n (i - k)) (sym (in_yes k (k + high) i g (omega arith))))
-    (λ h. bit_beyond (i - k) (high + 1 - 0) x (field_below high 0 n) h ∙ ap (λ b. b && bit n (i - k)) (sym (in_no k (k + high) i (inr (omega arith)))))
-    (cases_lt (i - k) (high + 1 - 0)))
-    (cases_lt i k)
-
 -- a tag: the valid bit below the page
 below_12 : (x r q : Bool) → r ≡ false → x ≡ cond x true (r && q)
 below_12 true r q h = refl
@@ -289,10 +274,9 @@ tag_bits : (r : Option LookAsideRow) (i : ℕ) → bit (tag_value r) i ≡ tag_b
 tag_bits None i = bit_of_zero i
 tag_bits (Some r) i =
     let x = bits 18 0 r.pci_page in
-    let alone : x * 2 ^ 13 + 0 ≡ x * 2 ^ 13 = omega arith in
     ⊎_elim
     (λ l. bit_low i 13 x (2 ^ 12) l ∙ bit_of_power 12 i ∙ below_12 (eqb i 12) (in_range 13 31 i) (bit r.pci_page (i - 13)) (under i l))
-    (λ g. bit_high i 13 x (2 ^ 12) (omega arith) g ∙ sym (bit_high i 13 x 0 (omega arith) g) ∙ ap (λ n. bit n i) alone ∙ bit_moved 18 13 r.pci_page i
+    (λ g. bit_high i 13 x (2 ^ 12) (omega arith) g ∙ sym (bit_high i 13 x 0 (omega arith) g) ∙ ap (λ n. bit n i) (add-zero (x * 2 ^ 13)) ∙ bit_moved 18 0 13 31 r.pci_page i (i - 13) (omega arith) refl (λ _. omega arith)
     ∙ sym (cond-false (eqb i 12) _ _ (ne_eqb i 12 (λ e. omega arith))))
     (cases_lt i 13)
   where
@@ -301,7 +285,7 @@ tag_bits (Some r) i =
 
 data_bits : (r : Option LookAsideRow) (i : ℕ) → bit (data_value r) i ≡ data_bit r i
 data_bits None i = bit_of_zero i
-data_bits (Some r) i = bit_moved 19 1 r.page i
+data_bits (Some r) i = bit_moved 19 0 1 20 r.page i (i - 1) (omega arith) refl (λ _. omega arith)
 
 tag_named : (k : ℕ) → k < 8 → register_named (16 + k) ≡ Some (RowTag k)
 tag_named k h = grind (arith, nat_tests)

@@ -10,12 +10,12 @@ use Rattle.bridge.specs.declared.log.FaultLog.{FaultLog}
 use Rattle.bridge.specs.declared.look_aside.LookAside.{LookAside}
 use Rattle.bridge.specs.declared.registers.Registers.{Registers}
 use Rattle.bridge.specs.Bursts.{Burst, Job, Piece, failed_check, pieces, reading, writing}
-use Rattle.bridge.specs.Calls.{Call, burst_outcome, card, control_written, decode, load, log_clear, log_read, performed, processor, register_read, register_write, store}
+use Rattle.bridge.specs.Calls.{Call, burst_outcome, card, control_written, performed, processor, register_write}
 use Rattle.bridge.specs.Isolation.{after}
 use Rattle.bridge.specs.LookAside.{row, zero_rows}
 use Rattle.bridge.specs.Pieces.{PieceOutcome, after_piece, outcome_at_content, outcome_at_place, piece_outcome}
 use Rattle.bridge.specs.declared.registers.Register.{Register}
-use Rattle.bridge.specs.declared.registers.Register.TheVariants.{Haxr0, Haxr1, Haxr2, InvalidateAll, PciBase, PciMask, RowData, RowTag, TranslatedBase}
+use Rattle.bridge.specs.declared.registers.Register.TheVariants.{InvalidateAll}
 use Rattle.bridge.specs.Registers.{register_named, window}
 use Rattle.bridge.proofs.Reach.{set_cases}
 use Rattle.bridge.proofs.RowTables.{not_valid_at}
