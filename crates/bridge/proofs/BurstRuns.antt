@@ -1,6 +1,7 @@
 -- A burst served piece by piece: what was served, followed by a run of what is left, is the whole run.
-use Rattle.std.proofs.Common.{◌≡◌, ℕ, zero, suc, ◌+◌, ◌-◌, ◌*◌, ◌<◌, ◌≤◌, Bool, true, false, cond, eqb, ◌⊎◌, List, [], ◌∷◌, ◌++◌, Some, None, sym, refl, ap, ◌∙◌, subst, inl, inr, ⊎_elim, arith}
-use Rattle.std.proofs.lemmas.Bool.{cond-false, ne_eqb}
+use Rattle.std.proofs.Common.{◌≡◌, ℕ, zero, suc, ◌+◌, ◌-◌, ◌*◌, ◌<◌, ◌≤◌, Bool, true, false, cond, eqb, ◌⊎◌, List, [], ◌∷◌, ◌++◌, Some, None, sym, refl, ap, ◌∙◌, inl, inr, ⊎_elim, arith}
+use Rattle.std.proofs.ByRecursion.{All-push}
+use Rattle.std.proofs.lemmas.Bool.{cond_both, cond-false, eqb-false, eqb-true}
 use Rattle.std.proofs.lemmas.List.{append_assoc, append-nil, drop-drop}
 use Rattle.std.specs.List.{AllByRecursion}
 use Rattle.bridge.specs.Bursts.{Burst, Job, Piece, cut, in_line, is_unclaimed, job_front, job_rest, pieces, reading, third_check, writing}
@@ -34,9 +35,11 @@ run_last s p ps o e f = ap (λ x. run_piece s x (run (after_piece s x) ps)) e �
 abbrev pub piece_at : ℕ → ℕ → Job → Piece
 piece_at pci n job = record { pci = pci; count = n; job = job_front n job }
 
-cut_more : (turns pci left : ℕ) (job : Job) → 0 < left
-    → cut (suc turns) pci left job ≡ piece_at pci (in_line pci left) job ∷ cut turns (pci + 4 * in_line pci left) (left - in_line pci left) (job_rest (in_line pci left) job)
-cut_more turns pci left job h = cond-false (eqb left 0) _ _ (ne_eqb left 0 (λ e. omega arith))
+-- what a cut comes to, turn by turn: nothing of no longwords, else the first piece and the cut of the rest
+pub cut_by : (P : List Piece → Type 0) (turns pci left : ℕ) (job : Job) → (left ≡ 0 → P [])
+    → ((left ≡ 0 → ⊥) → P (piece_at pci (in_line pci left) job ∷ cut turns (pci + 4 * in_line pci left) (left - in_line pci left) (job_rest (in_line pci left) job)))
+    → P (cut (suc turns) pci left job)
+cut_by P turns pci left job none more = cond_both (eqb left 0) _ _ P (λ e. none (eqb-true left 0 e)) (λ e. more (eqb-false left 0 e))
 
 cut_one : (turns pci left n pci' left' : ℕ) (job job' : Job) → 0 < left → left ≤ turns → n ≡ in_line pci left → pci' ≡ pci + 4 * n → left' ≡ left - n → job' ≡ job_rest n job
     → (u : ℕ) × (left' ≤ u) × (cut turns pci left job ≡ piece_at pci n job ∷ cut u pci' left' job')
@@ -44,12 +47,12 @@ cut_one zero pci left n pci' left' job job' h k e p q r = absurd (omega arith)
 cut_one (suc u) pci left n pci' left' job job' h k e p q r = (
   u,
   omega arith,
-  rw (p, q, r) (subst (λ m. cut (suc u) pci left job ≡ piece_at pci m job ∷ cut u (pci + 4 * m) (left - m) (job_rest m job)) (sym e) (cut_more u pci left job h)),
+  rw (p, q, r, e) (cut_by (λ ps. ps ≡ piece_at pci (in_line pci left) job ∷ cut u (pci + 4 * in_line pci left) (left - in_line pci left) (job_rest (in_line pci left) job)) u pci left job (λ z. absurd (omega arith)) (λ ne. refl)),
 )
 
-cut_none : (s : State) (turns pci left : ℕ) (job : Job) → left ≡ 0 → run s (cut turns pci left job) ≡ stopped s []
-cut_none s zero pci left job e = refl
-cut_none s (suc u) pci left job e = rw e refl
+cut_none : (turns pci left : ℕ) (job : Job) → left ≡ 0 → cut turns pci left job ≡ []
+cut_none zero pci left job e = refl
+cut_none (suc u) pci left job e = rw e refl
 
 rest_of_rest : (n done : ℕ) (job : Job) → job_rest (done + n) job ≡ job_rest n (job_rest done job)
 rest_of_rest n done reading = refl
@@ -72,10 +75,6 @@ not_claimed s p e = ap (λ c. outcome_located s.control.log s.lines p (located_b
 
 abbrev pub GoesOn : PieceReply → Type 0
 GoesOn r = ends r ≡ false
-
-all_more : (rs : List PieceReply) (r : PieceReply) → AllByRecursion GoesOn rs → GoesOn r → AllByRecursion GoesOn (rs ++ r ∷ [])
-all_more [] r h k = (k, tt)
-all_more (x ∷ rs) r h k = (h.0, all_more rs r h.1 k)
 
 -- nothing was served yet, or a window holds the first longword
 abbrev Begun : State → ℕ → State → ℕ → Type 0
@@ -133,7 +132,7 @@ module _ (s₀ : State) (pci count : ℕ) (job : Job) (s : State) (done : ℕ) (
               ∙ resumed_twice replies (o.reply ∷ []) _
               ∙ ap (λ x. resumed (replies ++ o.reply ∷ []) (run x (cut left.0 (pci + 4 * (done + n)) (count - (done + n)) (job_rest (done + n) job)))) (sym g);
           registers = ap (λ x. x.control.registers) g ∙ i.registers;
-          go_on = all_more replies o.reply i.go_on f;
+          go_on = All-push GoesOn replies o.reply i.go_on f;
           begun = inr (omega (arith, near), first_held number mapped c);
         }
 
@@ -154,7 +153,7 @@ module _ (s₀ : State) (pci count : ℕ) (job : Job) (s : State) (done : ℕ) (
   -- the last piece is served
   pub finish : count ≤ done → run s₀ (cut count pci count job) ≡ stopped s replies
   finish h =
-      i.served ∙ ap (resumed replies) (cut_none s i.turns (pci + 4 * done) (count - done) (job_rest done job) (omega arith))
+      i.served ∙ ap (λ ps. resumed replies (run s ps)) (cut_none i.turns (pci + 4 * done) (count - done) (job_rest done job) (omega arith))
       ∙ ap (stopped s) (append-nil replies)
 
 -- what a burst comes to once its first longword is held, or not

@@ -1,20 +1,11 @@
 -- What a card write puts into a line: bytes and masks.
-use Rattle.std.proofs.Common.{◌≡◌, ℕ, zero, suc, ◌+◌, ◌-◌, ◌*◌, ◌/◌, ◌%◌, ◌^◌, ◌<◌, ◌≤◌, false, ltb, List, [], ◌∷◌, length, get_or, take, drop, sym, refl, ap, ◌∙◌, arith, pow_mono}
+use Rattle.std.proofs.Common.{◌≡◌, ℕ, suc, ◌+◌, ◌-◌, ◌*◌, ◌^◌, ◌<◌, ◌≤◌, false, ltb, List, [], ◌∷◌, ◌++◌, length, get_or, take, drop, sym, ap, ◌∙◌, arith, pow_mono}
 use Rattle.std.proofs.lemmas.Bool.{or_parts, ltb-false}
-use Rattle.std.proofs.lemmas.List.{get_or_past, take_all}
+use Rattle.std.proofs.lemmas.List.{take_all}
+use Rattle.std.proofs.lemmas.List.Folds.{list_any-append}
 use Rattle.std.proofs.lemmas.Nat.{pow-add}
 use Rattle.bridge.specs.Bursts.{wide_enable}
-use Rattle.bridge.specs.Longwords.{byte_of, enable_bits, word_bytes}
-
-zeros : (m : ℕ) → get_or (word_bytes 0) m 0 ≡ 0
-zeros zero = refl
-zeros (suc zero) = refl
-zeros (suc (suc zero)) = refl
-zeros (suc (suc (suc zero))) = refl
-zeros (suc (suc (suc (suc m)))) = refl
-
-pub byte_past : (words : List ℕ) (j : ℕ) → length words ≤ j / 4 → 0 ≡ byte_of words j
-byte_past words j h = sym (ap (λ (w : ℕ). get_or (word_bytes w) (j % 4) 0) (get_or_past words (j / 4) 0 h) ∙ zeros (j % 4))
+use Rattle.bridge.specs.Longwords.{enable_bits}
 
 mask_more : (n m e : ℕ) → e ≤ 15 → m < 2 ^ (4 * n) → e + 16 * m < 2 ^ (4 * suc n)
 mask_more n m e h k =
@@ -27,10 +18,9 @@ mask_below (e ∷ es) h =
     let p = or_parts (ltb 15 e) (wide_enable es) h in
     mask_more (length es) (enable_bits es) e (omega (arith, ltb-false 15 e p.0)) (mask_below es p.1)
 
-pub wide_drop : (es : List ℕ) (i : ℕ) → wide_enable es ≡ false → wide_enable (drop i es) ≡ false
-wide_drop es zero h = h
-wide_drop [] (suc i) h = h
-wide_drop (e ∷ es) (suc i) h = wide_drop es i (or_parts (ltb 15 e) (wide_enable es) h).1
+-- enables that are narrow in the whole are so in each part
+pub wide_parts : (a b : List ℕ) → wide_enable (a ++ b) ≡ false → (wide_enable a ≡ false) × (wide_enable b ≡ false)
+wide_parts a b h = or_parts _ _ (sym (list_any-append (λ e. ltb 15 e) a b) ∙ h)
 
 pub bits_fit : (es : List ℕ) → length es ≤ 8 → wide_enable es ≡ false → enable_bits es < 2 ^ 32
 bits_fit es few narrow =

@@ -4,6 +4,7 @@ use Rattle.std.proofs.Common.{◌≡◌, ℕ, zero, suc, ◌/◌, ◌^◌, ◌<�
 use Rattle.std.proofs.lemmas.Nat.{mod_below, shr_high, shr-shr}
 use Rattle.std.proofs.lemmas.List.{length-set}
 use Rattle.std.proofs.lemmas.Bool.{cond_both}
+use Rattle.std.proofs.lemmas.Option.{none-some}
 use Rattle.memory.specs.Content.{Lines}
 use Rattle.memory.specs.Rows.{Finds, first_index}
 use Rattle.memory.specs.Searches.{first_finds}
@@ -30,11 +31,11 @@ named_by_row : (t : LookAside) (n page : ℕ) → cached_page t n ≡ Some page 
 named_by_row t n page e = go (first_index (λ r. answers_in r n) t.rows) (first_finds (λ r. answers_in r n) t.rows) e
   where
     go : (o : Option ℕ) → Finds (λ r. answers_in r n) t.rows o → page_of_row t o ≡ Some page → NamedByRow t page
-    go None f g = absurd (let z : ◌≡◌ {A = ℕ} 0 1 = cc in omega arith)
+    go None f g = absurd (none-some page g)
     go (Some i) f g = record { index = i; within = f.0; named = g }
 
 -- after a row is filled, a valid row names the new page, or one that a valid row named before
-set_cases : (l : List (Option LookAsideRow)) (i k : ℕ) (r d : Option LookAsideRow) → (get_or (set l i r) k d ≡ r) ⊎ (get_or (set l i r) k d ≡ get_or l k d)
+pub set_cases : (l : List (Option LookAsideRow)) (i k : ℕ) (r d : Option LookAsideRow) → (get_or (set l i r) k d ≡ r) ⊎ (get_or (set l i r) k d ≡ get_or l k d)
 set_cases [] i k r d = inr refl
 set_cases (x ∷ l) zero zero r d = inl refl
 set_cases (x ∷ l) zero (suc k) r d = inr refl

@@ -2,10 +2,11 @@
 use Rattle.std.proofs.Common.{◌≡◌, ℕ, zero, suc, ◌*◌, ◌/◌, ◌≤◌, Bool, true, false, cond, eqb, List, ◌∷◌, length, get_or, take, replicate, Some, None, sym, refl, ap, ◌∙◌, subst, ap₂, ⊎_elim, arith}
 use Rattle.std.proofs.lemmas.Bool.{both_ways, cases_Bool, cond_both, cond-false, ne_eqb}
 use Rattle.std.proofs.lemmas.Bool.Decides.{nat_tests}
+use Rattle.std.proofs.lemmas.Option.{none-some}
 use Rattle.std.specs.List.{AllByRecursion}
 use Rattle.memory.specs.Content.{Bounded, Content, Lawful, Lines, absent, all_ones, good, overwritten, spoiled, written}
 use Rattle.memory.specs.LinesAt.{merged_full}
-use Rattle.bridge.specs.Calls.{Call, Request, card, control_after, decode, is_burst, lines_after, load, log_clear, log_read, performed, processor, register_read, register_write, store}
+use Rattle.bridge.specs.Calls.{Call, Request, card, control_after, is_burst, lines_after, performed, processor, store}
 use Rattle.bridge.specs.Isolation.{AllAlike, Alike, CarriesALine, Hidden, Isolated, IsolatedRuns, Isolation, Protected, ProtectedThroughout, SameBurst, hidden_stores, more_calls, no_calls, replaced, same_call, stored_by, stored_by_all}
 use Rattle.bridge.specs.LookAside.{page_in}
 use Rattle.bridge.specs.Pages.{Closed, Held, NamedByEntry, NamedByRow, PlainlyReached, line_page}
@@ -15,6 +16,7 @@ use Rattle.bridge.specs.State.{State, new_state}
 use Rattle.bridge.specs.Windows.{holds}
 use Rattle.bridge.proofs.PieceSteps.{Twin, at_twin, protected_over, protected_within}
 use Rattle.bridge.proofs.Reach.{page_of_line}
+use Rattle.bridge.proofs.RowTables.{not_valid_at}
 use Rattle.bridge.proofs.TwinBursts.{twin_bursts}
 
 -- a store of 32 bytes under a full mask replaces a line that is there
@@ -25,41 +27,26 @@ overwritten_full bytes (good old) h = ap good (sym (merged_full old bytes h))
 
 -- the processor changes lines by stores alone; a refused one leaves its line, which is absent if it has the number at all
 request_lines : (q : Request) (lines : Lines) → CarriesALine (processor q) → Bounded lines → (line : ℕ) → lines_after q lines line ≡ stored_by line (processor q) (lines line)
-request_lines (register_read n) lines sized bound line = refl
-request_lines (register_write n v) lines sized bound line = refl
-request_lines (load a) lines sized bound line = refl
 request_lines (store a bytes) lines sized bound line =
     cond_both (no_line a) _ _ (λ (after : Lines). after line ≡ stored_by line (processor (store a bytes)) (lines line))
     (λ bad. cond_both (eqb a (32 * line)) _ _ (λ c. lines line ≡ c)
     (λ e. let far : 0xC000000 ≤ line = grind (arith, nat_tests) in let gone = bound line far in gone ∙ ap (replaced bytes) (sym gone)) (λ _. refl))
     (λ fine. let hit : eqb line (a / 32) ≡ eqb a (32 * line) = grind (arith, nat_tests) in ap₂ (λ b c. cond b c (lines line)) hit (overwritten_full bytes (lines line) sized))
-request_lines (decode a) lines sized bound line = refl
-request_lines log_read lines sized bound line = refl
-request_lines log_clear lines sized bound line = refl
+request_lines q lines sized bound line = refl
 
 -- what the processor makes of a line depends on that line alone
 request_same : (q : Request) (a b : Lines) (line : ℕ) → b line ≡ a line → lines_after q b line ≡ lines_after q a line
-request_same (register_read n) a b line h = h
-request_same (register_write n v) a b line h = h
-request_same (load x) a b line h = h
 request_same (store x bytes) a b line h = go (no_line x)
   where
     go : (bad : Bool) → cond bad b (written (x / 32) bytes all_ones b) line ≡ cond bad a (written (x / 32) bytes all_ones a) line
     go true = h
     go false = ap (λ c. cond (eqb line (x / 32)) (overwritten bytes all_ones c) c) h
-request_same (decode x) a b line h = h
-request_same log_read a b line h = h
-request_same log_clear a b line h = h
+request_same q a b line h = h
 
 request_lacks : (q : Request) (lines : Lines) (line : ℕ) → lines line ≡ absent → lines_after q lines line ≡ absent
-request_lacks (register_read n) lines line h = h
-request_lacks (register_write n v) lines line h = h
-request_lacks (load a) lines line h = h
 request_lacks (store a bytes) lines line h =
     cond_both (no_line a) _ _ (λ (after : Lines). after line ≡ absent) (λ _. h) (λ _. cond_both (eqb line (a / 32)) _ _ (λ c. c ≡ absent) (λ _. ap (overwritten bytes all_ones) h) (λ _. h))
-request_lacks (decode a) lines line h = h
-request_lacks log_read lines line h = h
-request_lacks log_clear lines line h = h
+request_lacks q lines line h = h
 
 -- one call in one run
 record Alone (hidden : Hidden) (s : State) (c : Call) : Type 0 where
@@ -138,9 +125,7 @@ none_held m number pci h =
     both_ways (holds zero_window pci) refl (ap (λ w. holds w pci) (sym same) ∙ h.held)
 
 pub none_valid : (n index page : ℕ) → page_in (get_or (replicate n None) index None) ≡ Some page → ⊥
-none_valid zero index page h = absurd (let z : ◌≡◌ {A = ℕ} 0 1 = cc in omega arith)
-none_valid (suc n) zero page h = absurd (let z : ◌≡◌ {A = ℕ} 0 1 = cc in omega arith)
-none_valid (suc n) (suc index) page h = none_valid n index page h
+none_valid n index page h = none-some page (sym (ap page_in (not_valid_at n index)) ∙ h)
 
 none_open : (m : Lines) (page : ℕ) → Closed (new_state m) page
 none_open m page o =

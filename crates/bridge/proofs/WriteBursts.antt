@@ -1,7 +1,8 @@
 -- A card write, piece by piece: what it counts, and its answer.
-use Rattle.std.proofs.Common.{◌≡◌, ℕ, zero, suc, ◌+◌, ◌-◌, ◌*◌, ◌<◌, ◌≤◌, Bool, true, false, cond, eqb, ltb, List, [], ◌∷◌, ◌++◌, length, take, drop, is_ok, Some, None, Ok, Err, Result, sym, refl, ap, ◌∙◌, subst, ⊎_elim, add-zero, add_assoc, zero-add, arith, eq-eqb}
-use Rattle.std.proofs.lemmas.List.{append-nil, drop-take, take-take}
-use Rattle.std.proofs.lemmas.Bool.{cond-false, cond-true, ne_eqb, or_parts, or_from}
+use Rattle.std.proofs.Common.{◌≡◌, ℕ, ◌+◌, ◌-◌, ◌*◌, ◌<◌, ◌≤◌, Bool, true, false, cond, eqb, List, [], ◌∷◌, ◌++◌, length, take, drop, is_ok, Some, None, Ok, Err, Result, sym, refl, ap, ◌∙◌, subst, ⊎_elim, add-zero, add_assoc, zero-add, arith, eq-eqb}
+use Rattle.std.proofs.lemmas.List.{append-nil, take-append-drop, take-take}
+use Rattle.std.proofs.Math.Seq.{take-add}
+use Rattle.std.proofs.lemmas.Bool.{cond-false, cond-true, ne_eqb}
 use Rattle.std.specs.List.{AllByRecursion}
 use Rattle.bridge.specs.declared.bursts.BurstRefusal.{BurstRefusal}
 use Rattle.bridge.specs.declared.bursts.BurstRefusal.TheVariants.{Ended, Unclaimed}
@@ -18,22 +19,17 @@ use Rattle.bridge.specs.Runs.{answer_of_write, counted, ends, met_no_window}
 use Rattle.bridge.specs.State.{State}
 use Rattle.bridge.specs.Windows.{claim}
 use Rattle.bridge.proofs.BurstRuns.{GoesOn, Progress, finish, held_outcome, piece_at, start, step, stop_unheld, unheld_outcome}
-use Rattle.bridge.proofs.LineBytes.{wide_drop}
+use Rattle.bridge.proofs.LineBytes.{wide_parts}
 use Rattle.bridge.proofs.ReadBursts.{part, part_length}
 
--- enables that are narrow in the whole are so in a part
-wide_take : (es : List ℕ) (n : ℕ) → wide_enable es ≡ false → wide_enable (take n es) ≡ false
-wide_take es zero h = refl
-wide_take [] (suc n) h = refl
-wide_take (e ∷ es) (suc n) h = let p = or_parts (ltb 15 e) (wide_enable es) h in or_from _ _ p.0 (wide_take es n p.1)
-
+-- and so are those of a piece
 pub wide_part : (es : List ℕ) (count done n : ℕ) → done + n ≤ count → wide_enable (take count es) ≡ false → wide_enable (part done n es) ≡ false
 wide_part es count done n l h =
     let k : done + n - done ≡ n = omega arith in
-    let e : take (done + n) (take count es) ≡ take (done + n) es = take-take (done + n) count es l in
-    subst (λ m. wide_enable (take m (drop done es)) ≡ false) (sym k)
-    (subst (λ x. wide_enable x ≡ false) (drop-take done n es)
-    (wide_drop (take (done + n) es) done (subst (λ x. wide_enable x ≡ false) e (wide_take (take count es) (done + n) h))))
+    let whole : take (done + n) (take count es) ++ drop (done + n) (take count es) ≡ take count es = take-append-drop (done + n) (take count es) in
+    let first : take (done + n) (take count es) ≡ take done es ++ take n (drop done es) = take-take (done + n) count es l ∙ take-add done n es in
+    let upto = wide_parts (take (done + n) (take count es)) (drop (done + n) (take count es)) (ap wide_enable whole ∙ h) in
+    rw k (wide_parts (take done es) (take n (drop done es)) (ap wide_enable (sym first) ∙ upto.0)).1
 
 -- counts side by side
 abbrev summed : WriteCounts → WriteCounts → WriteCounts

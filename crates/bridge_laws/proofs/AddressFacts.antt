@@ -1,8 +1,10 @@
 -- The addresses bit by bit.
-use Rattle.std.proofs.Common.{◌≡◌, ℕ, zero, suc, ◌+◌, ◌-◌, ◌*◌, ◌/◌, ◌%◌, ◌^◌, ◌<◌, ◌≤◌, Bool, true, false, cond, not, ◌&&◌, ◌||◌, eqb, ltb, leb, sym, refl, ap, ◌∙◌, subst, ap₂, ⊎_elim, arith}
+use Rattle.std.proofs.Common.{◌≡◌, ℕ, ◌+◌, ◌-◌, ◌*◌, ◌^◌, ◌<◌, ◌≤◌, Bool, true, false, cond, not, ◌&&◌, ◌||◌, eqb, ltb, leb, sym, refl, ap, ◌∙◌, subst, ap₂, ⊎_elim, arith}
 use lib.Bits.{and_le_l, and_le_r, bit_and, bit_xor, or_lt}
 use Rattle.std.proofs.lemmas.Nat.{pow-add, pow_below, pow_pos}
-use Rattle.std.proofs.lemmas.Bool.{and_from, and_parts, cases_lt, cases_order, cond_both, eq-eqb, eqb-true, le-leb, leb-false, leb-true, lt-ltb, ltb-true, ne_eqb, both_ways}
+use Rattle.std.proofs.lemmas.Nat.Bits.{bit_at-lt, bit_at_ones, bit_at_ones_above, bit_at-pow_other, bit_at-pow_same, bit_at-zero, same_from_bits_below}
+use Rattle.std.proofs.Math.Bool.{not-not}
+use Rattle.std.proofs.lemmas.Bool.{and_from, and_parts, cases_eq, cases_lt, cond_both, eq-eqb, eqb-false, eqb-true, le-leb, leb-false, leb-true, lt-ltb, ltb-true, ne_eqb, both_ways}
 use Rattle.std.proofs.lemmas.Bool.Decides.{nat_tests}
 use Rattle.memory.specs.Content.{bit}
 use Rattle.bridge.specs.declared.registers.Registers.{Registers}
@@ -11,7 +13,7 @@ use Rattle.bridge_laws.specs.AddressBits.{PageBits, AddressBits, Agrees, Configu
 use Rattle.bridge.specs.Bits.{bits}
 use Rattle.bridge.specs.Processor.{configuration_0_address, device_bit, first_lane, lane_count, sparse_memory_address}
 use Rattle.bridge.specs.Windows.{enabled, holds, mixed, target_base}
-use Rattle.bridge_laws.proofs.BitFacts.{bit_of_and, bit_beyond, bit_complement, bit_field, bit_high, bit_low, bit_of_zero, bit_of_or, bit_of_xor, bit_zero, bit_half, differs, field_below}
+use Rattle.bridge_laws.proofs.BitFacts.{bit_of_and, bit_beyond, bit_complement, bit_field, bit_high, bit_low, bit_of_zero, bit_of_or, bit_of_xor, differs, field_below}
 
 -- a field at its place i of the number that it was taken from
 field_at : (high low n i j : ℕ) → i < high + 1 - low → low + i ≡ j → bit (bits high low n) i ≡ bit n j
@@ -115,12 +117,7 @@ page_bits page pci = record {
 
 -- no bit set: zero
 all_zero : (w n : ℕ) → n < 2 ^ w → ((i : ℕ) → i < w → bit n i ≡ false) → n ≡ 0
-all_zero zero n l h = omega arith
-all_zero (suc w) n l h =
-    let p : 2 ^ suc w ≡ 2 * 2 ^ w = let e : suc w ≡ 1 + w = omega arith in ap (λ k. 2 ^ k) e ∙ pow-add 2 1 w in
-    let half : n / 2 ≡ 0 = all_zero w (n / 2) (omega arith) (λ i k. sym (bit_half n i) ∙ h (suc i) (omega arith)) in
-    let even : eqb (n % 2) 1 ≡ false = sym (bit_zero n) ∙ h 0 (omega arith) in
-    grind (arith, nat_tests)
+all_zero w n l h = same_from_bits_below w n 0 l (pow_pos w) (λ i k. let b = bit_at-lt n i in let e = eqb-false _ _ (h i k) in omega (arith, bit_at-zero i))
 
 -- two bits that differ nowhere the mask is 0
 agree_where : (x y m : Bool) → (differs x y && not m) ≡ false → m ≡ false → x ≡ y
@@ -179,10 +176,6 @@ bit_of_cond : (b : Bool) (y i : ℕ) → bit (cond b 0 y) i ≡ cond (not b) (bi
 bit_of_cond true y i = bit_of_zero i
 bit_of_cond false y i = refl
 
-not_not : (b : Bool) → not (not b) ≡ b
-not_not true = refl
-not_not false = refl
-
 sparse_fields : (b : Bool) (h x : ℕ) → cond b 0 (h * 2 ^ 27) + x * 2 ^ 2 ≡ cond b 0 h * 2 ^ 27 + (x * 2 ^ 2 + 0)
 sparse_fields true h x = omega arith
 sparse_fields false h x = omega arith
@@ -204,7 +197,7 @@ sparse_memory_bits r cpu =
       zeros = λ i _ l. ap (λ n. bit n i) e ∙ bit_low i 27 h (x * 2 ^ 2 + 0) (omega arith) ∙ bit_low i 2 x 0 (omega arith) ∙ bit_of_zero i;
       middle = λ i g l. ap (λ n. bit n i) e ∙ bit_low i 27 h (x * 2 ^ 2 + 0) (omega arith) ∙ bit_high i 2 x 0 (omega arith) g ∙ field_at 31 7 cpu (i - 2) (i + 5) (omega arith) (omega arith);
       high = λ i g l. ap (λ n. bit n i) e ∙ bit_high i 27 h (x * 2 ^ 2 + 0) lb g ∙ bit_of_cond b (bits 31 27 r.haxr1) (i - 27)
-          ∙ ap₂ (λ c y. cond c y false) (ap not (some_set cpu) ∙ not_not _) (field_at 31 27 r.haxr1 (i - 27) i (omega arith) (omega arith));
+          ∙ ap₂ (λ c y. cond c y false) (ap not (some_set cpu) ∙ not-not _) (field_at 31 27 r.haxr1 (i - 27) i (omega arith) (omega arith));
       beyond = λ i l. ap (λ n. bit n i) e ∙ bit_beyond i 32 (h * 2 ^ 27 + (x * 2 ^ 2 + 0)) (omega arith) l;
     }
 
@@ -216,14 +209,10 @@ sparse_io_bits cpu = record { low = λ i _ h. field_at 28 5 cpu i (i + 5) (omega
 
 -- a power of two has one bit
 pub bit_of_power : (d j : ℕ) → bit (2 ^ d) j ≡ eqb j d
-bit_of_power d j = ⊎_elim
-    (λ e. let f : j - d ≡ 0 = omega arith in ap (λ n. bit n j) one ∙ bit_high j d 1 0 (pow_pos d) (omega arith) ∙ ap (bit 1) f ∙ sym (eq-eqb j d e))
-    (λ ne. ⊎_elim (λ l. ap (λ n. bit n j) one ∙ bit_low j d 1 0 l ∙ bit_of_zero j ∙ sym (ne_eqb j d (λ e. omega arith)))
-    (λ g. ap (λ n. bit n j) one ∙ bit_high j d 1 0 (pow_pos d) (omega arith) ∙ bit_beyond (j - d) 1 1 (omega arith) (omega arith) ∙ sym (ne_eqb j d (λ e. omega arith))) ne)
-    (cases_order j d)
-  where
-    one : 2 ^ d ≡ 1 * 2 ^ d + 0
-    one = omega arith
+bit_of_power d j =
+    ⊎_elim (λ e. ap (λ k. bit (2 ^ d) k) e ∙ ap (λ b. eqb b 1) (bit_at-pow_same d) ∙ sym (eq-eqb j d e))
+    (λ ne. ap (λ b. eqb b 1) (bit_at-pow_other d j ne) ∙ sym (ne_eqb j d ne))
+    (cases_eq j d)
 
 device_power : (d : ℕ) → device_bit d ≡ cond (leb d 20) (2 ^ d) 0 * 2 ^ 11
 device_power d = go (leb d 20)
@@ -273,15 +262,11 @@ ones_from : (n f j : ℕ) → bit ((2 ^ n - 1) * 2 ^ f) j ≡ (leb f j && ltb j 
 ones_from n f j = ⊎_elim
     (λ l. ap (λ m. bit m j) at ∙ bit_low j f (2 ^ n - 1) 0 l ∙ bit_of_zero j ∙ grind (arith, nat_tests))
     (λ g. ap (λ m. bit m j) at ∙ bit_high j f (2 ^ n - 1) 0 (pow_pos f) g
-    ∙ ⊎_elim (λ l. ap (λ m. bit m (j - f)) whole ∙ bit_complement n 0 (j - f) (pow_pos n) l ∙ ap not (bit_of_zero (j - f)) ∙ grind (arith, nat_tests))
-    (λ k. bit_beyond (j - f) n (2 ^ n - 1) (let p = pow_pos n in omega arith) k ∙ grind (arith, nat_tests)) (cases_lt (j - f) n))
+    ∙ ⊎_elim (λ l. ap (λ b. eqb b 1) (bit_at_ones n (j - f) l) ∙ grind (arith, nat_tests)) (λ k. ap (λ b. eqb b 1) (bit_at_ones_above n (j - f) k) ∙ grind (arith, nat_tests)) (cases_lt (j - f) n))
     (cases_lt j f)
   where
     at : (2 ^ n - 1) * 2 ^ f ≡ (2 ^ n - 1) * 2 ^ f + 0
     at = omega arith
-
-    whole : 2 ^ n - 1 ≡ 2 ^ n - 1 - 0
-    whole = omega arith
 
 lane_bits : LaneBits
 lane_bits cpu j =

@@ -1,11 +1,11 @@
 -- A burst's pieces have its longwords, each once and in order, and each piece lies in one line.
-use Rattle.std.proofs.Common.{◌≡◌, ℕ, zero, suc, ◌+◌, ◌-◌, ◌*◌, ◌/◌, ◌%◌, ◌<◌, ◌≤◌, eqb, ◌⊎◌, List, [], ◌∷◌, ◌++◌, map, length, take, drop, sym, refl, ap, ◌∙◌, subst, ap₂, inl, inr, ⊎_elim, arith}
+use Rattle.std.proofs.Common.{◌≡◌, ℕ, zero, suc, ◌+◌, ◌-◌, ◌*◌, ◌/◌, ◌%◌, ◌<◌, ◌≤◌, ◌⊎◌, List, [], ◌∷◌, ◌++◌, map, length, take, drop, sym, refl, ap, ◌∙◌, ap₂, inl, inr, arith}
 use Rattle.std.proofs.ByRecursion.{All-get_or}
-use Rattle.std.proofs.lemmas.List.{drop-take, take-append-drop, take-take}
-use Rattle.std.proofs.lemmas.Bool.{cases_eq, cond-false, cond-true, eq-eqb, ne_eqb}
+use Rattle.std.proofs.Math.Seq.{take-add}
 use Rattle.std.proofs.lemmas.Bool.Decides.{nat_tests}
 use Rattle.std.specs.List.{range_with_len, AllWithin, flat_map, AllByRecursion}
 use Rattle.bridge.specs.Bursts.{Job, Piece, card_read, card_write, cut, in_line, job_front, job_rest, reading, writing}
+use Rattle.bridge.proofs.BurstRuns.{cut_by}
 use Rattle.bridge_laws.specs.Cuts.{CutAtLines, InOneLine, addresses, job_enables, job_words, piece_addresses}
 
 -- so many addresses, and then some more
@@ -26,32 +26,17 @@ addresses_split pci n m =
     let e : n + 0 ≡ 0 + n = omega arith in
     sym (counted_on (λ k. pci + 4 * k) n m 0 ∙ ap (λ l. addresses pci n ++ l) (ap (λ x. map (λ k. pci + 4 * k) (range_with_len x m)) (sym e) ∙ shifted pci m n 0))
 
-pub take_split : (n m : ℕ) (l : List ℕ) → take n l ++ take m (drop n l) ≡ take (n + m) l
-take_split n m l = ap₂ ◌++◌ (sym (take-take n (n + m) l (omega arith))) (sym (drop-take n m l)) ∙ take-append-drop n (take (n + m) l)
-
--- what a cut comes to, turn by turn: nothing of no longwords, else the first piece and the cut of the rest
-module _ (P : List Piece → Type 0) (turns pci left : ℕ) (job : Job) where
-  pub cut_none : left ≡ 0 → P [] → P (cut (suc turns) pci left job)
-  cut_none e h = subst P (sym (cond-true (eqb left 0) _ _ (eq-eqb left 0 e))) h
-
-  pub cut_more : (left ≡ 0 → ⊥)
-      → P (record { pci = pci; count = in_line pci left; job = job_front (in_line pci left) job } ∷ cut turns (pci + 4 * in_line pci left) (left - in_line pci left) (job_rest (in_line pci left) job))
-      → P (cut (suc turns) pci left job)
-  cut_more e h = subst P (sym (cond-false (eqb left 0) _ _ (ne_eqb left 0 e))) h
-
 pub in_line_some : (pci left : ℕ) → (left ≡ 0 → ⊥) → (0 < in_line pci left) × (in_line pci left ≤ left)
 in_line_some pci left h = (omega arith, omega arith)
 
 cut_addresses : (turns pci left : ℕ) (job : Job) → left ≤ turns → flat_map piece_addresses (cut turns pci left job) ≡ addresses pci left
 cut_addresses zero pci left job h = let e : 0 ≡ left = omega arith in ap (addresses pci) e
 cut_addresses (suc turns) pci left job h =
-    ⊎_elim (λ e. cut_none (λ ps. flat_map piece_addresses ps ≡ addresses pci left) turns pci left job e (ap (addresses pci) (sym e)))
-    (λ ne. cut_more (λ ps. flat_map piece_addresses ps ≡ addresses pci left) turns pci left job ne
-    (let n = in_line pci left in
+    cut_by (λ ps. flat_map piece_addresses ps ≡ addresses pci left) turns pci left job (λ e. ap (addresses pci) (sym e))
+    (λ ne. let n = in_line pci left in
     let s = in_line_some pci left ne in
     let e : n + (left - n) ≡ left = omega arith in
-    ap (λ l. addresses pci n ++ l) (cut_addresses turns (pci + 4 * n) (left - n) (job_rest n job) (omega arith)) ∙ addresses_split pci n (left - n) ∙ ap (addresses pci) e))
-    (cases_eq left 0)
+    ap (λ l. addresses pci n ++ l) (cut_addresses turns (pci + 4 * n) (left - n) (job_rest n job) (omega arith)) ∙ addresses_split pci n (left - n) ∙ ap (addresses pci) e)
 
 -- of a write also the values, or the enables
 cut_parts : (f : Job → List ℕ) (part : List ℕ → List ℕ → List ℕ)
@@ -60,21 +45,18 @@ cut_parts : (f : Job → List ℕ) (part : List ℕ → List ℕ → List ℕ)
     → (turns pci left : ℕ) (words enables : List ℕ) → left ≤ turns → flat_map (λ (p : Piece). f p.job) (cut turns pci left (writing words enables)) ≡ take left (part words enables)
 cut_parts f part front rest zero pci left words enables h = let e : 0 ≡ left = omega arith in ap (λ k. take k (part words enables)) e
 cut_parts f part front rest (suc turns) pci left words enables h =
-    ⊎_elim (λ e. cut_none (λ ps. flat_map (λ (p : Piece). f p.job) ps ≡ take left (part words enables)) turns pci left (writing words enables) e (ap (λ k. take k (part words enables)) (sym e)))
-    (λ ne. cut_more (λ ps. flat_map (λ (p : Piece). f p.job) ps ≡ take left (part words enables)) turns pci left (writing words enables) ne
-    (let n = in_line pci left in
+    cut_by (λ ps. flat_map (λ (p : Piece). f p.job) ps ≡ take left (part words enables)) turns pci left (writing words enables) (λ e. ap (λ k. take k (part words enables)) (sym e))
+    (λ ne. let n = in_line pci left in
     let s = in_line_some pci left ne in
     let e : n + (left - n) ≡ left = omega arith in
     ap₂ ◌++◌ (front n words enables) (cut_parts f part front rest turns (pci + 4 * n) (left - n) (drop n words) (drop n enables) (omega arith) ∙ ap (take (left - n)) (rest n words enables))
-    ∙ take_split n (left - n) (part words enables) ∙ ap (λ k. take k (part words enables)) e))
-    (cases_eq left 0)
+    ∙ sym (take-add n (left - n) (part words enables)) ∙ ap (λ k. take k (part words enables)) e)
 
 cut_reads : (f : Job → List ℕ) → f reading ≡ [] → (turns pci left : ℕ) → flat_map (λ (p : Piece). f p.job) (cut turns pci left reading) ≡ []
 cut_reads f e zero pci left = refl
 cut_reads f e (suc turns) pci left =
-    ⊎_elim (λ z. cut_none (λ ps. flat_map (λ (p : Piece). f p.job) ps ≡ []) turns pci left reading z refl)
-    (λ ne. cut_more (λ ps. flat_map (λ (p : Piece). f p.job) ps ≡ []) turns pci left reading ne (ap₂ ◌++◌ e (cut_reads f e turns _ _)))
-    (cases_eq left 0)
+    cut_by (λ ps. flat_map (λ (p : Piece). f p.job) ps ≡ []) turns pci left reading (λ z. refl)
+    (λ ne. ap₂ ◌++◌ e (cut_reads f e turns _ _))
 
 -- each piece lies in one line
 piece_in_line : (pci left : ℕ) → pci % 4 ≡ 0 → (left ≡ 0 → ⊥) → (pci + 4 * in_line pci left - 1) / 32 ≡ pci / 32
@@ -83,10 +65,8 @@ piece_in_line pci left a h = omega arith
 pub cut_in_line : (turns pci left : ℕ) (job : Job) → pci % 4 ≡ 0 → AllByRecursion InOneLine (cut turns pci left job)
 cut_in_line zero pci left job a = tt
 cut_in_line (suc turns) pci left job a =
-    ⊎_elim (λ e. cut_none (AllByRecursion InOneLine) turns pci left job e tt)
-    (λ ne. cut_more (AllByRecursion InOneLine) turns pci left job ne
-    (record { some = (in_line_some pci left ne).0; line = piece_in_line pci left a ne }, cut_in_line turns (pci + 4 * in_line pci left) (left - in_line pci left) _ (omega arith)))
-    (cases_eq left 0)
+    cut_by (AllByRecursion InOneLine) turns pci left job (λ e. tt)
+    (λ ne. (record { some = (in_line_some pci left ne).0; line = piece_in_line pci left a ne }, cut_in_line turns (pci + 4 * in_line pci left) (left - in_line pci left) _ (omega arith)))
 
 -- and a piece that others follow ends at a multiple of 32
 next_at_multiple : (pci left : ℕ) → pci % 4 ≡ 0 → (left - in_line pci left ≡ 0) ⊎ ((pci + 4 * in_line pci left) % 32 ≡ 0)
@@ -94,12 +74,10 @@ next_at_multiple pci left a = grind arith
 
 cut_multiples : (turns pci left : ℕ) (job : Job) → pci % 4 ≡ 0 → (left ≡ 0) ⊎ (pci % 32 ≡ 0) → AllByRecursion (λ (p : Piece). p.pci % 32 ≡ 0) (cut turns pci left job)
 cut_multiples zero pci left job a h = tt
-cut_multiples (suc turns) pci left job a (inl e) = cut_none (AllByRecursion (λ (p : Piece). p.pci % 32 ≡ 0)) turns pci left job e tt
+cut_multiples (suc turns) pci left job a (inl e) = cut_by (AllByRecursion (λ (p : Piece). p.pci % 32 ≡ 0)) turns pci left job (λ _. tt) (λ ne. absurd (ne e))
 cut_multiples (suc turns) pci left job a (inr m) =
-    ⊎_elim (λ e. cut_none (AllByRecursion (λ (p : Piece). p.pci % 32 ≡ 0)) turns pci left job e tt)
-    (λ ne. cut_more (AllByRecursion (λ (p : Piece). p.pci % 32 ≡ 0)) turns pci left job ne
-    (m, cut_multiples turns (pci + 4 * in_line pci left) (left - in_line pci left) _ (omega arith) (next_at_multiple pci left a)))
-    (cases_eq left 0)
+    cut_by (AllByRecursion (λ (p : Piece). p.pci % 32 ≡ 0)) turns pci left job (λ e. tt)
+    (λ ne. (m, cut_multiples turns (pci + 4 * in_line pci left) (left - in_line pci left) _ (omega arith) (next_at_multiple pci left a)))
 
 rest_every : (P : Piece → Type 0) (p : Piece) (ps : List Piece) → AllByRecursion P ps → AllWithin P (p ∷ ps) 1 (length (p ∷ ps))
 rest_every P p ps h zero d l u = absurd (omega arith)
@@ -109,10 +87,8 @@ cut_at_multiples : (turns pci left : ℕ) (job : Job) → pci % 4 ≡ 0 → AllW
 cut_at_multiples zero pci left job a = λ k d l u. absurd (omega arith)
 cut_at_multiples (suc turns) pci left job a =
     let E : List Piece → Type 0 = λ ps. AllWithin (λ (p : Piece). p.pci % 32 ≡ 0) ps 1 (length ps) in
-    ⊎_elim (λ e. cut_none E turns pci left job e (λ k d l u. absurd (omega arith)))
-    (λ ne. cut_more E turns pci left job ne
-    (rest_every (λ (p : Piece). p.pci % 32 ≡ 0) _ _ (cut_multiples turns (pci + 4 * in_line pci left) (left - in_line pci left) _ (omega arith) (next_at_multiple pci left a))))
-    (cases_eq left 0)
+    cut_by E turns pci left job (λ e k d l u. absurd (omega arith))
+    (λ ne. rest_every (λ (p : Piece). p.pci % 32 ≡ 0) _ _ (cut_multiples turns (pci + 4 * in_line pci left) (left - in_line pci left) _ (omega arith) (next_at_multiple pci left a)))
 
 pub cut_at_lines : CutAtLines
 cut_at_lines (card_read pci count buffer) h m =

@@ -13,10 +13,10 @@ use Rattle.bridge.specs.Processor.{decode_answer, decoded, decoded_configuration
 range_from : (low high n : ℕ) → in_range low high n ≡ true → (low ≤ n) × (n ≤ high)
 range_from low high n e = let p = and_parts _ _ e in (leb-true _ _ p.0, leb-true _ _ p.1)
 
-in_yes : (low high n : ℕ) → low ≤ n → n ≤ high → in_range low high n ≡ true
+pub in_yes : (low high n : ℕ) → low ≤ n → n ≤ high → in_range low high n ≡ true
 in_yes low high n g l = and_from _ _ (le-leb _ _ g) (le-leb _ _ l)
 
-in_no : (low high n : ℕ) → (n < low) ⊎ (high < n) → in_range low high n ≡ false
+pub in_no : (low high n : ℕ) → (n < low) ⊎ (high < n) → in_range low high n ≡ false
 in_no low high n o = grind (arith, nat_tests)
 
 no_range : (low high n : ℕ) → in_range low high n ≡ false → low ≤ n → n ≤ high → ⊥
@@ -53,13 +53,13 @@ module _ (cpu : ℕ) where
   no_region e f g h (in_configuration l k) = no_range _ _ cpu h l k
 
 differs_memory : SparseMemory ≡ DenseMemory → ⊥
-differs_memory e = let z : ◌≡◌ {A = ℕ} 0 1 = cc in omega arith
+differs_memory e = cc
 
 differs_io : SparseIo ≡ DenseMemory → ⊥
-differs_io e = let z : ◌≡◌ {A = ℕ} 0 1 = cc in omega arith
+differs_io e = cc
 
 differs_configuration : Configuration ≡ DenseMemory → ⊥
-differs_configuration e = let z : ◌≡◌ {A = ℕ} 0 1 = cc in omega arith
+differs_configuration e = cc
 
 pub decodes : Decodes
 decodes r cpu =

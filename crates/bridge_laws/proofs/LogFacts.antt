@@ -6,7 +6,7 @@ use Rattle.bridge.specs.declared.log.FaultLog.{FaultLog}
 use Rattle.bridge.specs.declared.log.FaultRecord.{FaultRecord}
 use Rattle.bridge.specs.declared.look_aside.LookAside.{LookAside}
 use Rattle.bridge.specs.Bursts.{Burst, Job, Piece, failed_check, pieces, reading, writing}
-use Rattle.bridge.specs.Calls.{Call, burst_outcome, card, control_written, decode, load, log_clear, log_read, performed, processor, register_read, register_write, store}
+use Rattle.bridge.specs.Calls.{Call, burst_outcome, card, control_written, log_clear, performed, processor, register_write}
 use Rattle.bridge.specs.Isolation.{after}
 use Rattle.bridge.specs.Log.{logged}
 use Rattle.bridge_laws.specs.LogRuns.{LogKeepsTheFirst, burst_faults, faults_at, faults_since, faults_then, log_of, run_faults, target_faults}
@@ -59,18 +59,15 @@ burst_log : (s : State) (b : Burst) (met : List FaultRecord) → s.control.log �
 burst_log s b met is (Some number) = is ∙ ap log_of (sym (append-nil met))
 burst_log s b met is None = run_log (pieces b) s met is
 
-written_log : (k : Control) (o : Option Register) (v : ℕ) → (control_written k o v).log ≡ k.log
+-- a register write leaves the log
+pub written_log : (k : Control) (o : Option Register) (v : ℕ) → (control_written k o v).log ≡ k.log
 written_log k None v = refl
 written_log k (Some r) v = refl
 
 call_log : (c : Call) (s : State) (met : List FaultRecord) → s.control.log ≡ log_of met → (performed s c).state.control.log ≡ log_of (faults_then met s c)
-call_log (processor (register_read n)) s met is = is
 call_log (processor (register_write n v)) s met is = written_log s.control (register_named n) v ∙ is
-call_log (processor (load address)) s met is = is
-call_log (processor (store address bytes)) s met is = is
-call_log (processor (decode cpu)) s met is = is
-call_log (processor log_read) s met is = is
 call_log (processor log_clear) s met is = refl
+call_log (processor q) s met is = is
 call_log (card b) s met is = burst_log s b met is (failed_check s.control.registers b)
 
 calls_log : (cs : List Call) (s : State) (met : List FaultRecord) → s.control.log ≡ log_of met → (after s cs).control.log ≡ log_of (faults_since met s cs)

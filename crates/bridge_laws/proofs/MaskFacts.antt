@@ -1,14 +1,15 @@
 -- The mask and the bytes of a card's longwords in a line.
-use Rattle.std.proofs.Common.{◌≡◌, ℕ, suc, ◌+◌, ◌-◌, ◌*◌, ◌/◌, ◌%◌, ◌^◌, ◌<◌, ◌≤◌, Bool, true, false, cond, ◌&&◌, eqb, ltb, List, [], ◌∷◌, length, get_or, sym, refl, ap, ◌∙◌, ⊎_elim, arith, pow_mono}
-use Rattle.std.proofs.lemmas.Nat.{pow-add, pow_pos, shl_below}
+use Rattle.std.proofs.Common.{◌≡◌, ℕ, suc, ◌+◌, ◌-◌, ◌*◌, ◌/◌, ◌%◌, ◌^◌, ◌<◌, ◌≤◌, Bool, true, false, cond, ◌&&◌, eqb, ltb, leb, List, [], ◌∷◌, length, get_or, sym, refl, ap, ◌∙◌, ⊎_elim, arith, pow_mono}
+use Rattle.std.proofs.lemmas.Nat.{shl_below}
 use Rattle.std.proofs.lemmas.List.FromFn.{get_or-map-range_with_len, length-map-range_with_len}
-use Rattle.std.proofs.lemmas.Bool.{and_left, and_parts, cases_lt, cond-false, eqb-false, eqb-true, le-leb, le-ltb, leb-true, lt-leb, ltb-false, or_parts}
+use Rattle.std.proofs.lemmas.Bool.{and_parts, cases_lt, cond-false, eqb-false, eqb-true, le-ltb, leb-true, ltb-false, or_parts}
 use Rattle.memory.specs.Content.{Content, absent, all_ones, bit, good, merged, overwritten, spoiled}
 use Rattle.memory.specs.LinesAt.{length_merged, ones_set}
 use Rattle.bridge.specs.Bursts.{wide_enable}
 use Rattle.bridge.specs.Longwords.{byte_of, enable_bits, line_byte, line_bytes, line_mask}
+use Rattle.bridge.proofs.LineBytes.{mask_below}
 use Rattle.bridge_laws.specs.Writes.{LineAfter, enabled_at, good_line, made_good, still_spoiled}
-use Rattle.bridge_laws.proofs.BitFacts.{bit_high, bit_low, bit_of_zero, lacks_bit}
+use Rattle.bridge_laws.proofs.BitFacts.{bit_high, bit_low, bit_of_zero, bit_up, lacks_bit}
 
 -- bit j of the enables is bit j % 4 of that of longword j / 4
 enables_bit : (enables : List ℕ) (j : ℕ) → wide_enable enables ≡ false → bit (enable_bits enables) j ≡ bit (get_or enables (j / 4) 0) (j % 4)
@@ -27,28 +28,12 @@ enables_bit (e ∷ enables) j h =
     (cases_lt j 4)
 
 mask_bit : (offset : ℕ) (enables : List ℕ) (i : ℕ) → wide_enable enables ≡ false → bit (line_mask offset enables) i ≡ enabled_at offset enables i
-mask_bit offset enables i h =
-    let v = enable_bits enables in
-    let at : v * 2 ^ offset ≡ v * 2 ^ offset + 0 = omega arith in
-    ⊎_elim
-    (λ l. ap (λ n. bit n i) at ∙ bit_low i offset v 0 l ∙ bit_of_zero i ∙ sym (and_left _ _ (lt-leb offset i l)))
-    (λ g. ap (λ n. bit n i) at ∙ bit_high i offset v 0 (pow_pos offset) g ∙ enables_bit enables (i - offset) h
-    ∙ ap (λ b. b && bit (get_or enables ((i - offset) / 4) 0) ((i - offset) % 4)) (sym (le-leb offset i g)))
-    (cases_lt i offset)
+mask_bit offset enables i h = bit_up offset (enable_bits enables) i ∙ ap (λ b. leb offset i && b) (enables_bit enables (i - offset) h)
 
--- it has no bit past those of the longwords
-enables_below : (enables : List ℕ) → wide_enable enables ≡ false → enable_bits enables < 2 ^ (4 * length enables)
-enables_below [] h = omega arith
-enables_below (e ∷ enables) h =
-    let parts = or_parts (ltb 15 e) (wide_enable enables) h in
-    let narrow = ltb-false 15 e parts.0 in
-    let rest = enables_below enables parts.1 in
-    let p : 2 ^ (4 * suc (length enables)) ≡ 2 ^ 4 * 2 ^ (4 * length enables) = let q : 4 * suc (length enables) ≡ 4 + 4 * length enables = omega arith in ap (λ k. 2 ^ k) q ∙ pow-add 2 4 (4 * length enables) in
-    omega arith
-
-mask_below : (offset : ℕ) (enables : List ℕ) → wide_enable enables ≡ false → 4 * length enables + offset ≤ 32 → line_mask offset enables < 2 ^ 32
-mask_below offset enables h l =
-    let a = shl_below (enable_bits enables) (4 * length enables) offset (enables_below enables h) in
+-- no bit is past the line
+line_mask_below : (offset : ℕ) (enables : List ℕ) → wide_enable enables ≡ false → 4 * length enables + offset ≤ 32 → line_mask offset enables < 2 ^ 32
+line_mask_below offset enables h l =
+    let a = shl_below (enable_bits enables) (4 * length enables) offset (mask_below enables h) in
     let b = pow_mono l in
     omega arith
 
@@ -79,7 +64,7 @@ module _ (offset : ℕ) (words enables : List ℕ) (narrow : wide_enable enables
       made_good (length_line offset words)
       (λ i h. let on : enabled_at offset enables i ≡ true = sym (mask_bit offset enables i narrow) ∙ ap (λ m. bit m i) (eqb-true _ _ e) ∙ ones_set i h in (on, new_at i h on))
   spoiled_after l false e =
-      let off = lacks_bit 32 (line_mask offset enables) (mask_below offset enables narrow l) (λ f. eqb-false _ _ e f) in
+      let off = lacks_bit (line_mask offset enables) (line_mask_below offset enables narrow l) (λ f. eqb-false _ _ e f) in
       still_spoiled off.0 off.1 (sym (mask_bit offset enables off.0 narrow) ∙ off.2)
 
   pub line_after : 4 * length enables + offset ≤ 32 → (c : Content) → (c ≡ absent → ⊥) → LineAfter offset words enables c (overwritten (line_bytes offset words) (line_mask offset enables) c)

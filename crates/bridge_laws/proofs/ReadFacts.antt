@@ -2,7 +2,7 @@
 use Rattle.std.proofs.Common.{◌≡◌, ℕ, zero, suc, ◌+◌, ◌-◌, ◌*◌, ◌/◌, ◌%◌, ◌<◌, ◌≤◌, Bool, true, false, ltb, List, [], ◌∷◌, ◌++◌, length, get_or, None, sym, refl, ap, ◌∙◌, subst, ⊎_elim, arith}
 use Rattle.std.proofs.lemmas.List.FromFn.{get_or-map-range_with_len, length-map-range_with_len}
 use Rattle.std.proofs.lemmas.List.{get_or_append_left, get_or-append_right, get_or-drop, length-append, length-drop}
-use Rattle.std.proofs.lemmas.Bool.{cases_eq, cases_lt, cond-false, cond-true, le-ltb, lt-ltb}
+use Rattle.std.proofs.lemmas.Bool.{cases_lt, cond-false, cond-true, le-ltb, lt-ltb}
 use Rattle.std.proofs.lemmas.Bool.Decides.{nat_tests}
 use Rattle.memory.specs.Answers.{Answer, refusal}
 use Rattle.memory.specs.Content.{Content, Lines, absent, good, spoiled}
@@ -20,12 +20,13 @@ use Rattle.bridge.specs.Calls.{burst_outcome}
 use Rattle.bridge.specs.Faults.{fault_line, fault_number, walk_line, walk_number}
 use Rattle.bridge.specs.Longwords.{longword_at, longwords}
 use Rattle.bridge.specs.Pieces.{Edit, PieceOutcome, PieceReply, after_piece, edited, no_edit, no_window, outcome_at_content, outcome_at_place, piece_outcome, read_ended, words_moved}
+use Rattle.bridge.proofs.BurstRuns.{cut_by}
 use Rattle.bridge_laws.specs.Reads.{FaultAt, ReadAt, ReadEndsWith, ReadLaw, Reads, at_absent, at_absent_table, at_entry, at_fault, at_no_window, at_spoiled, at_spoiled_table, complete, serving}
 use Rattle.bridge.specs.Runs.{Run, all_moved, ends, answer_of_read, run, run_piece, run_unless}
 use Rattle.bridge.specs.State.{State}
 use Rattle.bridge.specs.Translation.{Place, place_of, table_fault, target, unclaimed}
 use Rattle.bridge.specs.Windows.{claim}
-use Rattle.bridge_laws.proofs.CutFacts.{cut_more, cut_none, in_line_some}
+use Rattle.bridge_laws.proofs.CutFacts.{in_line_some}
 use Rattle.bridge_laws.proofs.SameLine.{target_low, target_on}
 
 -- what stops a walk is the fault that its number and line say
@@ -148,12 +149,9 @@ readings : (turns pci left : ℕ) → left ≤ turns → pci % 4 ≡ 0 → (s : 
 unfolding next
 readings zero pci left h a s = record { most = omega arith; words = λ k l. absurd (omega arith); end = λ m. complete (omega arith) }
 readings (suc turns) pci left h a s =
-    ⊎_elim
-    (λ e. cut_none (λ ps. Reading s pci left ps (run s ps).replies) turns pci left reading e (record { most = omega arith; words = λ k l. absurd (omega arith); end = λ m. complete (omega arith) }))
+    cut_by (λ ps. Reading s pci left ps (run s ps).replies) turns pci left reading (λ e. record { most = omega arith; words = λ k l. absurd (omega arith); end = λ m. complete (omega arith) })
     (λ ne. let fits = in_line_some pci left ne in
-    cut_more (λ ps. Reading s pci left ps (run s ps).replies) turns pci left reading ne
-    (reading_step s pci left a ne _ _ _ _ _ (read_reply s pci (in_line pci left)) (readings turns (pci + 4 * in_line pci left) (left - in_line pci left) (omega arith) (omega arith) _)))
-    (cases_eq left 0)
+    reading_step s pci left a ne _ _ _ _ _ (read_reply s pci (in_line pci left)) (readings turns (pci + 4 * in_line pci left) (left - in_line pci left) (omega arith) (omega arith) _))
 
 -- a read changes no line
 module _ (s : State) (pci n : ℕ) (t : LookAside) (log : FaultLog) (lines : Lines) where
@@ -177,12 +175,10 @@ run_piece_lines s o later here there = go (ends o.reply)
 read_lines : (turns pci left : ℕ) (s : State) → (run s (cut turns pci left reading)).state.lines ≡ s.lines
 read_lines zero pci left s = refl
 read_lines (suc turns) pci left s =
-    ⊎_elim (λ e. cut_none (λ ps. (run s ps).state.lines ≡ s.lines) turns pci left reading e refl)
-    (λ ne. cut_more (λ ps. (run s ps).state.lines ≡ s.lines) turns pci left reading ne
-    (let o = piece_outcome s.control s.lines (record { pci = pci; count = in_line pci left; job = reading }) in
+    cut_by (λ ps. (run s ps).state.lines ≡ s.lines) turns pci left reading (λ e. refl)
+    (λ ne. let o = piece_outcome s.control s.lines (record { pci = pci; count = in_line pci left; job = reading }) in
     let here : (after_piece s o).lines ≡ s.lines = ap (λ e. edited e s.lines) (edit_at_place s pci (in_line pci left) _ _ s.lines (place_of s pci)) in
-    run_piece_lines s o _ here (read_lines turns _ _ (after_piece s o) ∙ here)))
-    (cases_eq left 0)
+    run_piece_lines s o _ here (read_lines turns _ _ (after_piece s o) ∙ here))
 
 pub checks_passed : (s : State) (b : Burst) → failed_check s.control.registers b ≡ None → (out_of_bounds b ≡ false) × (misaligned b ≡ false) × (is_unclaimed (claim s.control.registers (burst_start b)) ≡ false)
 checks_passed s b ok = (grind arith, grind arith, grind arith)

@@ -8,6 +8,7 @@ use Rattle.memory.specs.Answers.{Answer, success, refusal}
 use Rattle.bridge.specs.declared.log.Direction.{Direction}
 use Rattle.bridge.specs.Bursts.{Burst, Job, Piece, burst_start, card_read, card_write, cut, failed_check, in_line, is_unclaimed, misaligned, out_of_bounds, reading, writing}
 use Rattle.bridge.specs.Calls.{burst_outcome, card, performed}
+use Rattle.bridge.proofs.BurstRuns.{cut_by}
 use Rattle.bridge_laws.specs.Cuts.{InOneLine}
 use Rattle.bridge.specs.Pieces.{PieceReply, no_window, read_ended, words_dismissed, words_moved, words_stored}
 use Rattle.bridge_laws.specs.Reads.{FaultAt, ReadEndsWith, at_absent, at_absent_table, at_entry, at_fault, at_no_window, at_spoiled, at_spoiled_table, complete, serving}
@@ -20,7 +21,7 @@ use Rattle.bridge_laws.specs.Translated.{Translated, by_entry, by_none, by_plain
 use Rattle.bridge.specs.Translation.{Located, Place, place_of, table_fault, target, unclaimed}
 use Rattle.bridge.specs.Windows.{claim, holds}
 use Rattle.bridge_laws.specs.Writes as W
-use Rattle.bridge_laws.proofs.CutFacts.{cut_in_line, cut_more, cut_none, in_line_some}
+use Rattle.bridge_laws.proofs.CutFacts.{cut_in_line, in_line_some}
 use Rattle.bridge_laws.proofs.ReadFacts.{checks_passed, reads}
 use Rattle.bridge_laws.proofs.TranslationFacts.{translates}
 use Rattle.bridge_laws.proofs.WriteFacts.{writes}
@@ -159,16 +160,14 @@ write_4 values (W.at_no_window h u) e = (h, u, ap values_of e)
 serving_first : (s : State) (turns pci left : ℕ) (job : Job) → serving s (cut turns pci left job) 0 ≡ s
 serving_first s zero pci left job = refl
 serving_first s (suc turns) pci left job =
-    ⊎_elim (λ e. cut_none (λ ps. serving s ps 0 ≡ s) turns pci left job e refl)
-    (λ ne. cut_more (λ ps. serving s ps 0 ≡ s) turns pci left job ne (cond-true (ltb 0 (in_line pci left)) _ _ (lt-ltb 0 _ (in_line_some pci left ne).0)))
-    (cases_eq left 0)
+    cut_by (λ ps. serving s ps 0 ≡ s) turns pci left job (λ e. refl)
+    (λ ne. cond-true (ltb 0 (in_line pci left)) _ _ (lt-ltb 0 _ (in_line_some pci left ne).0))
 
 first_piece : (turns pci left : ℕ) (job : Job) → 0 < length (cut turns pci left job) → (W.nth_piece (cut turns pci left job) 0).pci ≡ pci
 first_piece zero pci left job = λ h. absurd (omega arith)
 first_piece (suc turns) pci left job =
-    ⊎_elim (λ e. cut_none (λ ps. 0 < length ps → (W.nth_piece ps 0).pci ≡ pci) turns pci left job e (λ h. absurd (omega arith)))
-    (λ ne. cut_more (λ ps. 0 < length ps → (W.nth_piece ps 0).pci ≡ pci) turns pci left job ne (λ h. refl))
-    (cases_eq left 0)
+    cut_by (λ ps. 0 < length ps → (W.nth_piece ps 0).pci ≡ pci) turns pci left job (λ e. λ h. absurd (omega arith))
+    (λ ne. λ h. refl)
 
 first_taken : (ps : List Piece) (x : Bool) (l : List Bool) → AllByRecursion InOneLine ps → length (x ∷ l) < length ps → 0 < sum_by (λ (p : Piece). p.count) (take (length (x ∷ l)) ps)
 first_taken [] x l h k = absurd (omega arith)

@@ -1,7 +1,7 @@
 -- The register map.
-use Rattle.std.proofs.Common.{◌≡◌, ℕ, zero, suc, ◌+◌, ◌-◌, ◌*◌, ◌^◌, ◌<◌, ◌≤◌, Bool, true, false, cond, ◌&&◌, ◌||◌, eqb, ◌⊎◌, List, [], ◌∷◌, get_or, replicate, Some, None, Option, sym, refl, ap, ◌∙◌, subst, ap₂, inl, inr, ⊎_elim, arith}
+use Rattle.std.proofs.Common.{◌≡◌, ℕ, zero, suc, ◌+◌, ◌-◌, ◌*◌, ◌^◌, ◌<◌, ◌≤◌, Bool, true, false, cond, not, ◌&&◌, ◌||◌, eqb, List, [], ◌∷◌, Some, None, Option, sym, refl, ap, ◌∙◌, subst, ap₂, inl, inr, ⊎_elim, add-zero, arith}
 use Rattle.std.proofs.lemmas.Nat.{pow_pos}
-use Rattle.std.proofs.lemmas.Bool.{and_left, both_ways, cases_Bool, cases_eq, cases_lt, cond-false, cond-true, eq-eqb, ne_eqb}
+use Rattle.std.proofs.lemmas.Bool.{and_left, both_ways, cases_Bool, cases_eq, cases_lt, cond-false, cond-true, eq-eqb, ne_eqb, not-true}
 use Rattle.std.proofs.lemmas.Bool.Decides.{nat_tests}
 use Rattle.memory.specs.Answers.{Answer, success, refusal}
 use Rattle.memory.specs.Content.{bit}
@@ -13,33 +13,33 @@ use Rattle.bridge.specs.Calls.{Outcome, control_written, processor, register_rea
 use Rattle.bridge.specs.LookAside.{row, zero_rows}
 use Rattle.bridge_laws.specs.RegisterMap.{FromTo, Leaves, Listed, Parts, ReadsBack, RefusedWith10, RegisterMap, RowRegister, Writable, after_write, data_bit, kept_bit, read_of, tag_bit}
 use Rattle.bridge.specs.declared.registers.Register.{Register}
-use Rattle.bridge.specs.declared.registers.Register.TheVariants.{Haxr0, Haxr1, Haxr2, InvalidateAll, PciBase, PciMask, RowData, RowTag, TranslatedBase}
+use Rattle.bridge.specs.declared.registers.Register.TheVariants.{InvalidateAll, RowData, RowTag}
 use Rattle.bridge.specs.Registers.{data_value, read_only, register_named, register_read_answer, register_value, register_write_answer, tag_value}
 use Rattle.bridge.specs.State.{Control, State}
+use Rattle.bridge.proofs.RowTables.{not_valid_at}
 use Rattle.bridge_laws.proofs.AddressFacts.{bit_of_power}
 use Rattle.bridge_laws.proofs.BitFacts.{bit_beyond, bit_field, bit_high, bit_low, bit_of_zero, field_below}
+use Rattle.bridge_laws.proofs.DecodeFacts.{in_no, in_yes}
+use Rattle.bridge_laws.proofs.LogFacts.{written_log}
 use Rattle.bridge_laws.proofs.RowFacts.{invalidates_by_32, left_unless}
 
--- the bits of a field at its place
-bit_kept : (high low v i : ℕ) → low ≤ high → bit (bits_kept high low v) i ≡ (in_range low high i && bit v i)
-bit_kept high low v i h =
+-- the bits of a field, from k up to top
+bit_moved : (high low k top v i j : ℕ) → low ≤ high → top ≡ k + (high - low) → (k ≤ i → low + (i - k) ≡ j) → bit (bits high low v * 2 ^ k) i ≡ (in_range k top i && bit v j)
+bit_moved high low k top v i j h t place =
     let x = bits high low v in
-    let at : bits_kept high low v ≡ x * 2 ^ low + 0 = omega arith in
-    ap (λ n. bit n i) at
+    ap (λ n. bit n i) (sym (add-zero (x * 2 ^ k)))
     ∙ ⊎_elim
-    (λ l. bit_low i low x 0 l ∙ bit_of_zero i ∙ ap (λ b. b && bit v i) (sym (out i (inl l))))
-    (λ g. bit_high i low x 0 (pow_pos low) g
+    (λ l. bit_low i k x 0 l ∙ bit_of_zero i ∙ ap (λ b. b && bit v j) (sym (in_no k top i (inl l))))
+    (λ g. bit_high i k x 0 (pow_pos k) g
     ∙ ⊎_elim
-    (λ l. let e : low + (i - low) ≡ i = omega arith in bit_field high low v (i - low) l ∙ ap (bit v) e ∙ ap (λ b. b && bit v i) (sym (inside i g (omega arith))))
-    (λ k. bit_beyond (i - low) (high + 1 - low) x (field_below high low v) k ∙ ap (λ b. b && bit v i) (sym (out i (inr (omega arith)))))
-    (cases_lt (i - low) (high + 1 - low)))
-    (cases_lt i low)
-  where
-    out : (i : ℕ) → (i < low) ⊎ (high < i) → in_range low high i ≡ false
-    out i o = grind (arith, nat_tests)
+    (λ l. bit_field high low v (i - k) l ∙ ap (bit v) (place g) ∙ ap (λ b. b && bit v j) (sym (in_yes k top i g (omega arith))))
+    (λ m. bit_beyond (i - k) (high + 1 - low) x (field_below high low v) m ∙ ap (λ b. b && bit v j) (sym (in_no k top i (inr (omega arith)))))
+    (cases_lt (i - k) (high + 1 - low)))
+    (cases_lt i k)
 
-    inside : (i : ℕ) → low ≤ i → i ≤ high → in_range low high i ≡ true
-    inside i g l = grind (arith, nat_tests)
+-- the bits of a field at its own place
+bit_kept : (high low v i : ℕ) → low ≤ high → bit (bits_kept high low v) i ≡ (in_range low high i && bit v i)
+bit_kept high low v i h = bit_moved high low low high v i i h (omega arith) (λ g. omega arith)
 
 -- HAXR2 keeps two fields
 haxr2_bit : (v i : ℕ) → bit (bits_kept 31 24 v + bits_kept 1 0 v) i ≡ ((in_range 24 31 i || in_range 0 1 i) && bit v i)
@@ -47,13 +47,10 @@ haxr2_bit v i =
     let low : bits_kept 1 0 v < 2 ^ 24 = let l = field_below 1 0 v in omega arith in
     ⊎_elim
     (λ l. bit_low i 24 (bits 31 24 v) (bits_kept 1 0 v) l ∙ bit_kept 1 0 v i (omega arith) ∙ ap (λ b. b && bit v i) (below i l))
-    (λ g. bit_high i 24 (bits 31 24 v) (bits_kept 1 0 v) low g ∙ sym (bit_high i 24 (bits 31 24 v) 0 (omega arith) g) ∙ ap (λ n. bit n i) (alone (bits 31 24 v))
+    (λ g. bit_high i 24 (bits 31 24 v) (bits_kept 1 0 v) low g ∙ sym (bit_high i 24 (bits 31 24 v) 0 (omega arith) g) ∙ ap (λ n. bit n i) (add-zero (bits 31 24 v * 2 ^ 24))
     ∙ bit_kept 31 24 v i (omega arith) ∙ ap (λ b. b && bit v i) (above i g))
     (cases_lt i 24)
   where
-    alone : (x : ℕ) → x * 2 ^ 24 + 0 ≡ x * 2 ^ 24
-    alone x = omega arith
-
     below : (i : ℕ) → i < 24 → in_range 0 1 i ≡ (in_range 24 31 i || in_range 0 1 i)
     below i l = grind (arith, nat_tests)
 
@@ -116,27 +113,15 @@ module _ (v : ℕ) where
 -- the registers that the rows alone decide, with the numbers that name none
 abbrev by_rows : Option Register → Bool
 by_rows None = true
-by_rows (Some (TranslatedBase number)) = false
-by_rows (Some (PciBase number)) = false
-by_rows (Some (PciMask number)) = false
-by_rows (Some Haxr0) = false
-by_rows (Some Haxr1) = false
-by_rows (Some Haxr2) = false
-by_rows (Some (RowTag i)) = true
-by_rows (Some (RowData i)) = true
 by_rows (Some InvalidateAll) = true
+by_rows (Some r) = read_only r
 
 rows_decide : (r q : Registers) (t : LookAside) (o : Option Register) → by_rows o ≡ true → register_read_answer r t o ≡ register_read_answer q t o
 rows_decide r q t None h = refl
-rows_decide r q t (Some (TranslatedBase number)) h = absurd (both_ways false refl h)
-rows_decide r q t (Some (PciBase number)) h = absurd (both_ways false refl h)
-rows_decide r q t (Some (PciMask number)) h = absurd (both_ways false refl h)
-rows_decide r q t (Some Haxr0) h = absurd (both_ways false refl h)
-rows_decide r q t (Some Haxr1) h = absurd (both_ways false refl h)
-rows_decide r q t (Some Haxr2) h = absurd (both_ways false refl h)
 rows_decide r q t (Some (RowTag i)) h = refl
 rows_decide r q t (Some (RowData i)) h = refl
 rows_decide r q t (Some InvalidateAll) h = refl
+rows_decide r q t (Some register) h = absurd (both_ways false refl h)
 
 not_by_rows : (n : ℕ) → by_rows (register_named n) ≡ false → FromTo 6 14 n
 not_by_rows n h = (grind (arith, nat_tests), grind (arith, nat_tests))
@@ -144,15 +129,7 @@ not_by_rows n h = (grind (arith, nat_tests), grind (arith, nat_tests))
 -- the registers that can be written
 abbrev can_write : Option Register → Bool
 can_write None = false
-can_write (Some (TranslatedBase number)) = true
-can_write (Some (PciBase number)) = true
-can_write (Some (PciMask number)) = true
-can_write (Some Haxr0) = true
-can_write (Some Haxr1) = true
-can_write (Some Haxr2) = true
-can_write (Some (RowTag i)) = false
-can_write (Some (RowData i)) = false
-can_write (Some InvalidateAll) = true
+can_write (Some r) = not (read_only r)
 
 can_write_named : (n : ℕ) → can_write (register_named n) ≡ (in_range 6 14 n || eqb n 32)
 can_write_named n = grind (arith, nat_tests)
@@ -164,34 +141,16 @@ named_none n h = grind (arith, nat_tests)
 module _ (k : Control) (v : ℕ) where
   unwritten : (o : Option Register) → can_write o ≡ false → (control_written k o v ≡ k) × (register_write_answer o ≡ refusal 10 [])
   unwritten None h = (refl, refl)
-  unwritten (Some (TranslatedBase number)) h = absurd (both_ways true h refl)
-  unwritten (Some (PciBase number)) h = absurd (both_ways true h refl)
-  unwritten (Some (PciMask number)) h = absurd (both_ways true h refl)
-  unwritten (Some Haxr0) h = absurd (both_ways true h refl)
-  unwritten (Some Haxr1) h = absurd (both_ways true h refl)
-  unwritten (Some Haxr2) h = absurd (both_ways true h refl)
   unwritten (Some (RowTag i)) h = (refl, refl)
   unwritten (Some (RowData i)) h = (refl, refl)
-  unwritten (Some InvalidateAll) h = absurd (both_ways true h refl)
-
-  log_stays : (o : Option Register) → (control_written k o v).log ≡ k.log
-  log_stays None = refl
-  log_stays (Some r) = refl
+  unwritten (Some r) h = absurd (both_ways true h refl)
 
 answers_write : (o : Option Register) → can_write o ≡ true → register_write_answer o ≡ success []
 answers_write None h = absurd (both_ways false refl h)
-answers_write (Some (TranslatedBase number)) h = refl
-answers_write (Some (PciBase number)) h = refl
-answers_write (Some (PciMask number)) h = refl
-answers_write (Some Haxr0) h = refl
-answers_write (Some Haxr1) h = refl
-answers_write (Some Haxr2) h = refl
-answers_write (Some (RowTag i)) h = absurd (both_ways false refl h)
-answers_write (Some (RowData i)) h = absurd (both_ways false refl h)
-answers_write (Some InvalidateAll) h = refl
+answers_write (Some r) h = cond-false (read_only r) _ _ (not-true (read_only r) h)
 
 never_both : (a : Answer) (values : List ℕ) → a ≡ success values → a ≡ refusal 10 [] → ⊥
-never_both a values e f = let z : ◌≡◌ {A = ℕ} 0 1 = cc in omega arith
+never_both a values e f = cc
 
 writable_named : (n : ℕ) → can_write (register_named n) ≡ true → Writable n
 writable_named n h = let t = sym (can_write_named n) ∙ h in (listed t, λ r. other t r.0 r.1)
@@ -239,11 +198,6 @@ write_refused s n v = record {
     cannot h = ⊎_elim (λ t. absurd (h (writable_named n t))) (λ f. f) (cases_Bool (can_write (register_named n)))
 
 -- the zero rows read 0
-zero_at : (n i : ℕ) → get_or {A = Option LookAsideRow} (replicate n None) i None ≡ None
-zero_at zero i = refl
-zero_at (suc n) zero = refl
-zero_at (suc n) (suc i) = zero_at n i
-
 abbrev is_row : Option Register → Bool
 is_row None = false
 is_row (Some r) = read_only r
@@ -252,29 +206,15 @@ row_named : (m : ℕ) → RowRegister m → is_row (register_named m) ≡ true
 row_named m (g, l) = grind (arith, nat_tests)
 
 reads_zero : (r : Registers) (o : Option Register) → is_row o ≡ true → register_read_answer r zero_rows o ≡ success (0 ∷ [])
-reads_zero r None h = absurd (both_ways false refl h)
-reads_zero r (Some (TranslatedBase number)) h = absurd (both_ways false refl h)
-reads_zero r (Some (PciBase number)) h = absurd (both_ways false refl h)
-reads_zero r (Some (PciMask number)) h = absurd (both_ways false refl h)
-reads_zero r (Some Haxr0) h = absurd (both_ways false refl h)
-reads_zero r (Some Haxr1) h = absurd (both_ways false refl h)
-reads_zero r (Some Haxr2) h = absurd (both_ways false refl h)
-reads_zero r (Some (RowTag i)) h = ap (λ (x : Option LookAsideRow). success (tag_value x ∷ [])) (zero_at 8 i)
-reads_zero r (Some (RowData i)) h = ap (λ (x : Option LookAsideRow). success (data_value x ∷ [])) (zero_at 8 i)
-reads_zero r (Some InvalidateAll) h = absurd (both_ways false refl h)
+reads_zero r (Some (RowTag i)) h = ap (λ (x : Option LookAsideRow). success (tag_value x ∷ [])) (not_valid_at 8 i)
+reads_zero r (Some (RowData i)) h = ap (λ (x : Option LookAsideRow). success (data_value x ∷ [])) (not_valid_at 8 i)
+reads_zero r o h = absurd (both_ways false refl h)
 
 -- what a read that the rows do not decide answers
 not_rows_decide : (r : Registers) (t u : LookAside) (o : Option Register) → is_row o ≡ false → register_read_answer r t o ≡ register_read_answer r u o
-not_rows_decide r t u None h = refl
-not_rows_decide r t u (Some (TranslatedBase number)) h = refl
-not_rows_decide r t u (Some (PciBase number)) h = refl
-not_rows_decide r t u (Some (PciMask number)) h = refl
-not_rows_decide r t u (Some Haxr0) h = refl
-not_rows_decide r t u (Some Haxr1) h = refl
-not_rows_decide r t u (Some Haxr2) h = refl
 not_rows_decide r t u (Some (RowTag i)) h = absurd (both_ways true h refl)
 not_rows_decide r t u (Some (RowData i)) h = absurd (both_ways true h refl)
-not_rows_decide r t u (Some InvalidateAll) h = refl
+not_rows_decide r t u o h = refl
 
 named_row : (m : ℕ) → is_row (register_named m) ≡ true → RowRegister m
 named_row m h = (grind (arith, nat_tests), grind (arith, nat_tests))
@@ -310,7 +250,7 @@ leaves s n v = record {
   zeroed = λ e m r. let P : ℕ → Type 0 = λ x. read_of (after_write s x v) m ≡ success (0 ∷ []) in subst P (sym e) (reads_zero s.control.registers (register_named m) (row_named m r));
   rows_zero = λ e. let P : ℕ → Type 0 = λ x. (after_write s x v).control.look_aside ≡ zero_rows in subst P (sym e) refl;
   rows = λ n32. left_unless s.control v (register_named n) (λ e. n32 (invalidates_by_32 n e));
-  log = log_stays s.control v (register_named n);
+  log = written_log s.control (register_named n) v;
   lines = refl;
 }
 
@@ -325,27 +265,6 @@ reads_back s n v w =
     record { succeeds = answers_write (register_named n) (named_writable n w); value = kept_value n v; read = reads_back_low s n v l; bits = kept_value_bits v n l })
     (cases_eq n 32)
 
--- the low bits of a number, k places up
-bit_moved : (high k n i : ℕ) → bit (bits high 0 n * 2 ^ k) i ≡ (in_range k (k + high) i && bit n (i - k))
-bit_moved high k n i =
-    let x = bits high 0 n in
-    let at : x * 2 ^ k ≡ x * 2 ^ k + 0 = omega arith in
-    ap (λ m. bit m i) at
-    ∙ ⊎_elim
-    (λ l. bit_low i k x 0 l ∙ bit_of_zero i ∙ ap (λ b. b && bit n (i - k)) (sym (out i (inl l))))
-    (λ g. bit_high i k x 0 (pow_pos k) g
-    ∙ ⊎_elim
-    (λ l. let e : 0 + (i - k) ≡ i - k = omega arith in bit_field high 0 n (i - k) l ∙ ap (bit n) e ∙ ap (λ b. b && bit n (i - k)) (sym (inside i g (omega arith))))
-    (λ h. bit_beyond (i - k) (high + 1 - 0) x (field_below high 0 n) h ∙ ap (λ b. b && bit n (i - k)) (sym (out i (inr (omega arith)))))
-    (cases_lt (i - k) (high + 1 - 0)))
-    (cases_lt i k)
-  where
-    out : (i : ℕ) → (i < k) ⊎ (k + high < i) → in_range k (k + high) i ≡ false
-    out i o = grind (arith, nat_tests)
-
-    inside : (i : ℕ) → k ≤ i → i ≤ k + high → in_range k (k + high) i ≡ true
-    inside i g l = grind (arith, nat_tests)
-
 -- a tag: the valid bit below the page
 below_12 : (x r q : Bool) → r ≡ false → x ≡ cond x true (r && q)
 below_12 true r q h = refl
@@ -355,10 +274,9 @@ tag_bits : (r : Option LookAsideRow) (i : ℕ) → bit (tag_value r) i ≡ tag_b
 tag_bits None i = bit_of_zero i
 tag_bits (Some r) i =
     let x = bits 18 0 r.pci_page in
-    let alone : x * 2 ^ 13 + 0 ≡ x * 2 ^ 13 = omega arith in
     ⊎_elim
     (λ l. bit_low i 13 x (2 ^ 12) l ∙ bit_of_power 12 i ∙ below_12 (eqb i 12) (in_range 13 31 i) (bit r.pci_page (i - 13)) (under i l))
-    (λ g. bit_high i 13 x (2 ^ 12) (omega arith) g ∙ sym (bit_high i 13 x 0 (omega arith) g) ∙ ap (λ n. bit n i) alone ∙ bit_moved 18 13 r.pci_page i
+    (λ g. bit_high i 13 x (2 ^ 12) (omega arith) g ∙ sym (bit_high i 13 x 0 (omega arith) g) ∙ ap (λ n. bit n i) (add-zero (x * 2 ^ 13)) ∙ bit_moved 18 0 13 31 r.pci_page i (i - 13) (omega arith) refl (λ _. omega arith)
     ∙ sym (cond-false (eqb i 12) _ _ (ne_eqb i 12 (λ e. omega arith))))
     (cases_lt i 13)
   where
@@ -367,7 +285,7 @@ tag_bits (Some r) i =
 
 data_bits : (r : Option LookAsideRow) (i : ℕ) → bit (data_value r) i ≡ data_bit r i
 data_bits None i = bit_of_zero i
-data_bits (Some r) i = bit_moved 19 1 r.page i
+data_bits (Some r) i = bit_moved 19 0 1 20 r.page i (i - 1) (omega arith) refl (λ _. omega arith)
 
 tag_named : (k : ℕ) → k < 8 → register_named (16 + k) ≡ Some (RowTag k)
 tag_named k h = grind (arith, nat_tests)

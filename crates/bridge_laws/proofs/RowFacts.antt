@@ -1,5 +1,5 @@
 -- The look-aside rows over a run of calls.
-use Rattle.std.proofs.Common.{◌≡◌, ℕ, zero, suc, ◌/◌, Bool, true, false, ◌⊎◌, List, [], ◌∷◌, get_or, set, replicate, Some, None, Option, sym, refl, ap, ◌∙◌, subst, inl, inr, ⊎_elim, arith, Ok, Err, Result}
+use Rattle.std.proofs.Common.{◌≡◌, ℕ, ◌/◌, Bool, true, false, ◌⊎◌, List, [], ◌∷◌, Some, None, Option, sym, refl, ap, ◌∙◌, subst, inl, inr, ⊎_elim, arith, Ok, Err, Result}
 use Rattle.std.specs.Prelude.{is_some}
 use Rattle.std.proofs.lemmas.List.{get_or-set_other, get_or-set_same}
 use Rattle.std.proofs.lemmas.Bool.{false≢true}
@@ -8,16 +8,17 @@ use Rattle.memory.specs.Content.{Content, Lines, absent, good, spoiled}
 use Rattle.bridge.specs.declared.faults.WalkFault.{WalkFault}
 use Rattle.bridge.specs.declared.log.FaultLog.{FaultLog}
 use Rattle.bridge.specs.declared.look_aside.LookAside.{LookAside}
-use Rattle.bridge.specs.declared.look_aside.LookAsideRow.{LookAsideRow}
 use Rattle.bridge.specs.declared.registers.Registers.{Registers}
 use Rattle.bridge.specs.Bursts.{Burst, Job, Piece, failed_check, pieces, reading, writing}
-use Rattle.bridge.specs.Calls.{Call, burst_outcome, card, control_written, decode, load, log_clear, log_read, performed, processor, register_read, register_write, store}
+use Rattle.bridge.specs.Calls.{Call, burst_outcome, card, control_written, performed, processor, register_write}
 use Rattle.bridge.specs.Isolation.{after}
 use Rattle.bridge.specs.LookAside.{row, zero_rows}
 use Rattle.bridge.specs.Pieces.{PieceOutcome, after_piece, outcome_at_content, outcome_at_place, piece_outcome}
 use Rattle.bridge.specs.declared.registers.Register.{Register}
-use Rattle.bridge.specs.declared.registers.Register.TheVariants.{Haxr0, Haxr1, Haxr2, InvalidateAll, PciBase, PciMask, RowData, RowTag, TranslatedBase}
+use Rattle.bridge.specs.declared.registers.Register.TheVariants.{InvalidateAll}
 use Rattle.bridge.specs.Registers.{register_named, window}
+use Rattle.bridge.proofs.Reach.{set_cases}
+use Rattle.bridge.proofs.RowTables.{not_valid_at}
 use Rattle.bridge_laws.specs.RowRuns.{FilledRow, LeavesRows, RowsFill, RowsInRuns, RowsInvalidate, RowsLast, RowsServe}
 use Rattle.bridge.specs.Runs.{Run, ends, run, run_unless}
 use Rattle.bridge.specs.State.{Control, State, new_state}
@@ -34,21 +35,13 @@ from_refl s i = inl refl
 from_trans : (s t u : LookAside) → From s t → From t u → From s u
 from_trans s t u f g i = ⊎_elim (λ e. ⊎_elim (λ d. inl (e ∙ d)) (λ r. inr (subst FilledRow (sym e) r)) (f i)) inr (g i)
 
-set_at : (l : List (Option LookAsideRow)) (i k : ℕ) (r d : Option LookAsideRow) → (get_or (set l i r) k d ≡ get_or l k d) ⊎ (get_or (set l i r) k d ≡ r)
-set_at [] i k r d = inl refl
-set_at (x ∷ l) zero zero r d = inr refl
-set_at (x ∷ l) zero (suc k) r d = inl refl
-set_at (x ∷ l) (suc i) zero r d = inl refl
-set_at (x ∷ l) (suc i) (suc k) r d = set_at l i k r d
-
 -- a translation
 module _ (r : Registers) (t : LookAside) (lines : Lines) (pci : ℕ) where
   by_entry : (number : ℕ) → claim r pci ≡ Some (number, true) → (e : Result ℕ WalkFault) → entry_of (lines (entry_address (window r number) pci / 32)) (entry_address (window r number) pci) ≡ e → From t (located_by_entry t pci e).look_aside
   by_entry number c (Err fault) h = from_refl t
   by_entry number c (Ok page) h = λ i.
-      ⊎_elim inl
-      (λ e. inr (record { registers = r; lines = lines; pci = pci; number = number; page = page; claimed = c; named = h; is = e }))
-      (set_at t.rows t.pointer i _ None)
+      ⊎_elim (λ e. inr (record { registers = r; lines = lines; pci = pci; number = number; page = page; claimed = c; named = h; is = e }))
+      inl (set_cases t.rows t.pointer i _ None)
 
   by_row : (number : ℕ) → claim r pci ≡ Some (number, true) → (o : Option ℕ) → From t (located_by_row t lines pci (entry_address (window r number) pci) o).look_aside
   by_row number c (Some page) = from_refl t
@@ -101,37 +94,16 @@ invalidates_by_32 n e = grind (arith, nat_tests)
 -- a register write leaves the rows, unless it is that one
 module _ (k : Control) (v : ℕ) where
   pub left_unless : (o : Option Register) → (o ≡ Some InvalidateAll → ⊥) → (control_written k o v).look_aside ≡ k.look_aside
-  left_unless None ne = refl
-  left_unless (Some (TranslatedBase number)) ne = refl
-  left_unless (Some (PciBase number)) ne = refl
-  left_unless (Some (PciMask number)) ne = refl
-  left_unless (Some Haxr0) ne = refl
-  left_unless (Some Haxr1) ne = refl
-  left_unless (Some Haxr2) ne = refl
-  left_unless (Some (RowTag i)) ne = refl
-  left_unless (Some (RowData i)) ne = refl
   left_unless (Some InvalidateAll) ne = absurd (ne refl)
+  left_unless o ne = refl
 
   left_or_zero : (o : Option Register) → ((control_written k o v).look_aside ≡ k.look_aside) ⊎ ((control_written k o v).look_aside ≡ zero_rows)
-  left_or_zero None = inl refl
-  left_or_zero (Some (TranslatedBase number)) = inl refl
-  left_or_zero (Some (PciBase number)) = inl refl
-  left_or_zero (Some (PciMask number)) = inl refl
-  left_or_zero (Some Haxr0) = inl refl
-  left_or_zero (Some Haxr1) = inl refl
-  left_or_zero (Some Haxr2) = inl refl
-  left_or_zero (Some (RowTag i)) = inl refl
-  left_or_zero (Some (RowData i)) = inl refl
   left_or_zero (Some InvalidateAll) = inr refl
+  left_or_zero o = inl refl
 
 call_rows : (c : Call) (s : State) → LeavesRows c → From s.control.look_aside (performed s c).state.control.look_aside
-call_rows (processor (register_read n)) s l = from_refl s.control.look_aside
 call_rows (processor (register_write n v)) s l = subst (From s.control.look_aside) (sym (left_unless s.control v (register_named n) (λ e. l (invalidates_by_32 n e)))) (from_refl s.control.look_aside)
-call_rows (processor (load address)) s l = from_refl s.control.look_aside
-call_rows (processor (store address bytes)) s l = from_refl s.control.look_aside
-call_rows (processor (decode cpu)) s l = from_refl s.control.look_aside
-call_rows (processor log_read) s l = from_refl s.control.look_aside
-call_rows (processor log_clear) s l = from_refl s.control.look_aside
+call_rows (processor q) s l = from_refl s.control.look_aside
 call_rows (card b) s l = burst_rows s b (failed_check s.control.registers b)
 
 rows_last : RowsLast
@@ -145,23 +117,13 @@ AllFilled t = (i : ℕ) → is_some (row t i) ≡ true → FilledRow (row t i)
 filled_from : (s t : LookAside) → AllFilled s → From s t → AllFilled t
 filled_from s t f g i v = ⊎_elim (λ e. subst FilledRow (sym e) (f i (ap is_some (sym e) ∙ v))) (λ r. r) (g i)
 
-zero_invalid : (n i : ℕ) → is_some (get_or {A = Option LookAsideRow} (replicate n None) i None) ≡ false
-zero_invalid zero i = refl
-zero_invalid (suc n) zero = refl
-zero_invalid (suc n) (suc i) = zero_invalid n i
-
 zero_filled : AllFilled zero_rows
-zero_filled i v = absurd (false≢true (sym (zero_invalid 8 i) ∙ v))
+zero_filled i v = absurd (false≢true (sym (ap is_some (not_valid_at 8 i)) ∙ v))
 
 call_filled : (c : Call) (s : State) → AllFilled s.control.look_aside → AllFilled (performed s c).state.control.look_aside
-call_filled (processor (register_read n)) s f = f
 call_filled (processor (register_write n v)) s f =
     ⊎_elim (λ e. subst AllFilled (sym e) f) (λ e. subst AllFilled (sym e) zero_filled) (left_or_zero s.control v (register_named n))
-call_filled (processor (load address)) s f = f
-call_filled (processor (store address bytes)) s f = f
-call_filled (processor (decode cpu)) s f = f
-call_filled (processor log_read) s f = f
-call_filled (processor log_clear) s f = f
+call_filled (processor q) s f = f
 call_filled (card b) s f = filled_from s.control.look_aside (burst_outcome s b (failed_check s.control.registers b)).state.control.look_aside f (burst_rows s b (failed_check s.control.registers b))
 
 calls_filled : (cs : List Call) (s : State) → AllFilled s.control.look_aside → AllFilled (after s cs).control.look_aside
@@ -179,13 +141,8 @@ rows_fill t n page long = record {
   wraps = λ last. omega arith;
 }
 
-zero_rows_at : (n i : ℕ) → get_or {A = Option LookAsideRow} (replicate n None) i None ≡ None
-zero_rows_at zero i = refl
-zero_rows_at (suc n) zero = refl
-zero_rows_at (suc n) (suc i) = zero_rows_at n i
-
 rows_invalidate : RowsInvalidate
-rows_invalidate s v = record { rows = zero_rows_at 8; pointer = refl }
+rows_invalidate s v = record { rows = not_valid_at 8; pointer = refl }
 
 pub rows_in_runs : RowsInRuns
 rows_in_runs = record { last = rows_last; serve = rows_serve; valid = λ lines cs. calls_filled cs (new_state lines) zero_filled; fill = rows_fill; invalidate = rows_invalidate }

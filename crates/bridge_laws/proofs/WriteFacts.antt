@@ -1,8 +1,9 @@
 -- A card write, line by line.
-use Rattle.std.proofs.Common.{◌≡◌, ℕ, zero, suc, ◌+◌, ◌-◌, ◌*◌, ◌/◌, ◌%◌, ◌<◌, ◌≤◌, Bool, true, false, cond, not, ◌||◌, eqb, ltb, List, [], ◌∷◌, ◌++◌, length, get_or, take, drop, sum_by, count_by, sym, refl, ap, ◌∙◌, subst, ⊎_elim, arith}
+use Rattle.std.proofs.Common.{◌≡◌, ℕ, zero, suc, ◌+◌, ◌-◌, ◌*◌, ◌/◌, ◌%◌, ◌<◌, ◌≤◌, Bool, true, false, cond, not, ◌||◌, eqb, ltb, List, [], ◌∷◌, length, get_or, take, drop, sum_by, count_by, sym, refl, ap, ◌∙◌, subst, arith}
 use Rattle.std.proofs.lemmas.List.{length-take}
+use Rattle.std.proofs.Math.Seq.{take-add}
 use Rattle.std.proofs.lemmas.List.Sums.{sum_by-cons}
-use Rattle.std.proofs.lemmas.Bool.{cases_eq, cond-false, cond-true, eq-eqb, ne_eqb, or_from, or_parts}
+use Rattle.std.proofs.lemmas.Bool.{cond-false, cond-true, eq-eqb, ne_eqb, or_parts}
 use Rattle.std.proofs.lemmas.Bool.Decides.{nat_tests}
 use Rattle.memory.specs.Content.{Content, absent, good, spoiled}
 use Rattle.bridge.specs.declared.log.Direction.TheVariants.{Write}
@@ -10,14 +11,15 @@ use Rattle.bridge.specs.declared.look_aside.LookAside.{LookAside}
 use Rattle.bridge.specs.Bursts.{Burst, Piece, card_write, cut, in_line, pieces, wide_enable, writing, wrong_count}
 use Rattle.bridge.specs.Calls.{burst_outcome}
 use Rattle.bridge.specs.Pieces.{PieceOutcome, PieceReply, after_piece, no_window, outcome_at_content, outcome_at_place, outcome_written, piece_outcome, words_dismissed, words_stored}
-use Rattle.bridge.specs.declared.faults.BurstFault.{BurstFault}
+use Rattle.bridge.proofs.BurstRuns.{cut_by}
+use Rattle.bridge.proofs.LineBytes.{wide_parts}
 use Rattle.bridge_laws.specs.Reads.{FaultAt, at_absent}
 use Rattle.bridge.specs.declared.bursts.WriteCounts.{WriteCounts}
 use Rattle.bridge.specs.Runs.{Run, counted, ends, met_no_window, run, run_piece, run_unless, answer_of_write}
 use Rattle.bridge.specs.State.{State}
 use Rattle.bridge.specs.Translation.{Place, place_of, table_fault, target, unclaimed}
 use Rattle.bridge_laws.specs.Writes.{LineAfter, LineServed, Stored, WriteEndsWith, WriteLaw, Writes, at_no_window, before_piece, complete, nth_piece, was_dismissed, was_stored}
-use Rattle.bridge_laws.proofs.CutFacts.{cut_more, cut_none, in_line_some, take_split}
+use Rattle.bridge_laws.proofs.CutFacts.{in_line_some}
 use Rattle.bridge_laws.proofs.MaskFacts.{line_after}
 use Rattle.bridge_laws.proofs.ReadFacts.{checks_passed, walk_met}
 use Rattle.bridge_laws.proofs.SameLine.{target_low, target_on}
@@ -46,8 +48,8 @@ module _ (s : State) (pci left : ℕ) (aligned : pci % 4 ≡ 0) (words enables :
   at_content : (address : ℕ) → place_of s pci ≡ target address → (c : Content) → s.lines (address / 32) ≡ c
       → WriteStep s (record { pci = pci; count = in_line pci left; job = writing words enables }) (outcome_at_content t s.control.log (record { pci = pci; count = in_line pci left; job = writing words enables }) address (writing words enables) c)
   at_content address e absent h = step_dismissed refl (at_absent address e h) refl
-  at_content address e spoiled h = step_stored refl (at_target address e (λ a. absurd (let z : spoiled ≡ absent = sym h ∙ a in let y : ◌≡◌ {A = ℕ} 0 1 = cc in omega arith)))
-  at_content address e (good bytes) h = step_stored refl (at_target address e (λ a. absurd (let z : good bytes ≡ absent = sym h ∙ a in let y : ◌≡◌ {A = ℕ} 0 1 = cc in omega arith)))
+  at_content address e spoiled h = step_stored refl (at_target address e (λ a. cc))
+  at_content address e (good bytes) h = step_stored refl (at_target address e (λ a. cc))
 
   at_place : (q : Place) → place_of s pci ≡ q
       → WriteStep s (record { pci = pci; count = in_line pci left; job = writing words enables }) (outcome_at_place t s.control.log s.lines (record { pci = pci; count = in_line pci left; job = writing words enables }) q)
@@ -123,14 +125,6 @@ module _ (s : State) (p : Piece) (ps : List Piece) (later : Run) where
       subst (Writing s (p ∷ ps)) (sym (run_last s _ later no_window e refl))
       (record { stored = []; served = λ i l. absurd (omega arith); tally = refl; end = short (omega arith) u; memory = same })
 
--- the enables of the first longwords, and of the rest, are narrow where all are
-wide_parts : (a b : List ℕ) → wide_enable (a ++ b) ≡ false → (wide_enable a ≡ false) × (wide_enable b ≡ false)
-wide_parts [] b h = (refl, h)
-wide_parts (e ∷ a) b h =
-    let parts = or_parts (ltb 15 e) (wide_enable (a ++ b)) h in
-    let rest = wide_parts a b parts.1 in
-    (or_from (ltb 15 e) (wide_enable a) parts.0 rest.0, rest.1)
-
 nothing_left : (s : State) → Writing s [] (run s [])
 nothing_left s = record { stored = []; served = λ i l. absurd (omega arith); tally = refl; end = whole refl; memory = refl }
 
@@ -138,16 +132,13 @@ writings : (turns pci left : ℕ) (words enables : List ℕ) → left ≤ turns 
     → Writing s (cut turns pci left (writing words enables)) (run s (cut turns pci left (writing words enables)))
 writings zero pci left words enables h a narrow s = nothing_left s
 writings (suc turns) pci left words enables h a narrow s =
-    ⊎_elim
-    (λ e. cut_none (λ ps. Writing s ps (run s ps)) turns pci left (writing words enables) e (nothing_left s))
+    cut_by (λ ps. Writing s ps (run s ps)) turns pci left (writing words enables) (λ e. nothing_left s)
     (λ ne. let fits = in_line_some pci left ne in
     let n = in_line pci left in
     let e : n + (left - n) ≡ left = omega arith in
-    let parts = wide_parts (take n enables) (take (left - n) (drop n enables)) (ap wide_enable (take_split n (left - n) enables ∙ ap (λ k. take k enables) e) ∙ narrow) in
-    cut_more (λ ps. Writing s ps (run s ps)) turns pci left (writing words enables) ne
-    (writing_step s _ _ _ (write_step s pci left a (take n words) (take n enables) parts.0 (simp length-take (omega arith)))
-    (writings turns (pci + 4 * n) (left - n) (drop n words) (drop n enables) (omega arith) (omega arith) parts.1 _)))
-    (cases_eq left 0)
+    let parts = wide_parts (take n enables) (take (left - n) (drop n enables)) (ap wide_enable (sym (take-add n (left - n) enables) ∙ ap (λ k. take k enables) e) ∙ narrow) in
+    writing_step s _ _ _ (write_step s pci left a (take n words) (take n enables) parts.0 (simp length-take (omega arith)))
+    (writings turns (pci + 4 * n) (left - n) (drop n words) (drop n enables) (omega arith) (omega arith) parts.1 _))
 
 answer_end : {s : State} {ps : List Piece} {l : List Bool} (c : WriteCounts) (b : Bool) → c ≡ summed ps l → Ending s ps l b → WriteEndsWith s ps l (answer_of_write c b)
 answer_end {s} {ps} {l} c b e (whole h) = subst (λ (d : WriteCounts). WriteEndsWith s ps l (answer_of_write d false)) (sym e) (complete h)
