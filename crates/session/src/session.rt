@@ -73,7 +73,7 @@ impl Session {
         ensures after { session_state self.new ≡ session_state self.old }
     {
         let CallAnswer::Load(result) = self.request(Request::Load { address }) else {
-            unreachable()
+            unreachable!()
         };
         result
     }
@@ -85,7 +85,7 @@ impl Session {
         ensures after { session_state self.new ≡ (requested self.old (store address bytes)).state }
     {
         let CallAnswer::Store(result) = self.request(Request::Store { address, bytes }) else {
-            unreachable()
+            unreachable!()
         };
         result
     }
@@ -144,7 +144,7 @@ impl Session {
     {
         let CallAnswer::RegisterRead(result) = self.request(Request::RegisterRead { n: register })
         else {
-            unreachable()
+            unreachable!()
         };
         Ok(Reply::Value(u64::from(result?)))
     }
@@ -155,7 +155,7 @@ impl Session {
     {
         let request = Request::RegisterWrite { n: register, value };
         let CallAnswer::RegisterWrite(result) = self.request(request) else {
-            unreachable()
+            unreachable!()
         };
         result?;
         Ok(Reply::Done)
@@ -166,7 +166,7 @@ impl Session {
         ensures { Does self.old (N.Pci, address) (reply_of result) self.new }
     {
         let CallAnswer::Decode(result) = self.request(Request::Decode { cpu: address }) else {
-            unreachable()
+            unreachable!()
         };
         Ok(Reply::Decoded(result?))
     }
@@ -176,7 +176,7 @@ impl Session {
         ensures { Does self.old (N.Log, tt) result self.new }
     {
         let CallAnswer::LogRead(reading) = self.request(Request::LogRead) else {
-            unreachable()
+            unreachable!()
         };
         Reply::Log(reading)
     }
@@ -198,16 +198,16 @@ impl Session {
         let count = count as usize;
         let mut call = Call::Card(Burst::CardRead { pci, count, buffer });
         let CallAnswer::CardRead(result) = self.bridge.perform(&mut call) else {
-            unreachable()
+            unreachable!()
         };
         if let Err(refusal) = result {
             return Ok(Err(refusal.into()));
         }
         let Call::Card(burst) = call else {
-            unreachable()
+            unreachable!()
         };
         let Burst::CardRead { buffer, .. } = burst else {
-            unreachable()
+            unreachable!()
         };
         Ok(Ok(Reply::Longwords(buffer)))
     }
@@ -230,7 +230,7 @@ impl Session {
             enables,
         });
         let CallAnswer::CardWrite(result) = self.bridge.perform(&mut call) else {
-            unreachable()
+            unreachable!()
         };
         match result {
             Ok(counts) => Ok(Ok(Reply::Counts(counts))),
@@ -290,7 +290,7 @@ impl Session {
 fn byte_enables(number: u64) -> u8
     ensures { result ≡ min number 255 }
 {
-    number.min(255) as u8
+    u8::try_from(number).unwrap_or(u8::MAX)
 }
 
 // The longwords of pairs, and their byte enables.
