@@ -55,7 +55,7 @@ impl From<ReadRefusal> for FormError {
     ghost from_gives = { λ refusal e. e ≡ Refused (F.Read refusal) };
 
     fn from(refusal: ReadRefusal) -> FormError {
-        FormError::Refused(FormRefusal::Read(refusal))
+        FormError::Refused(refusal.into())
     }
 }
 
@@ -63,7 +63,7 @@ impl From<WriteRefusal> for FormError {
     ghost from_gives = { λ refusal e. e ≡ Refused (F.Write refusal) };
 
     fn from(refusal: WriteRefusal) -> FormError {
-        FormError::Refused(FormRefusal::Write(refusal))
+        FormError::Refused(refusal.into())
     }
 }
 

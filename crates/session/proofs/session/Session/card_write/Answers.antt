@@ -1,4 +1,4 @@
-use Rattle.std.proofs.Common.{map, sym, refl, ap, ◌∙◌, subst}
+use Rattle.std.proofs.Common.{refl}
 use Rattle.session.specs.declared.replies.Reply.TheVariants.{Counts, Refused}
 use Rattle.session.specs.declared.replies.FormRefusal.TheVariants as F
 use Rattle.session.proofs.Performing.{refused_in}
