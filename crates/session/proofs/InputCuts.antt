@@ -1,13 +1,10 @@
 -- What the cutter gives for an input is what is kept of its lines.
 use Rattle.std.proofs.Common.{◌≡◌, ℕ, Bool, true, false, cond, eqb, leb, List, [], ◌∷◌, ◌++◌, map, length, sym, refl, ap, ◌∙◌, subst, ⊎_elim, arith}
+use Rattle.std.proofs.ByRecursion.{All-push}
 use Rattle.std.proofs.lemmas.List.{append_assoc, append-nil, length-append}
 use Rattle.std.proofs.lemmas.Bool.{cases_eq, cases_lt, cond-false, cond-true, eq-eqb, le-leb, le-ltb, lt-leb, lt-ltb, ne_eqb}
 use Rattle.std.specs.List.{AllByRecursion}
 use Rattle.session.specs.InputLines.{CutAtEnds, Inside, LinesOf, Step, cut_of, ended_lines, kept, last_line, line_with_end, line_without_end, lines_from, no_line, taken, too_long}
-
-all_more : (line : List ℕ) (b : ℕ) → AllByRecursion Inside line → Inside b → AllByRecursion Inside (line ++ b ∷ [])
-all_more [] b h k = (k, tt)
-all_more (x ∷ line) b h k = (h.0, all_more line b h.1 k)
 
 -- one byte more of a line
 taken_is : (line : List ℕ) (b : ℕ) → taken (cut_of line) b ≡ cut_of (line ++ b ∷ [])
@@ -45,7 +42,7 @@ cuts (b ∷ input) line h =
       subst (λ x. LinesOf (line ++ x ∷ input) (line ∷ rest.0)) (sym e) (line_with_end line input rest.0 h rest.1),
       ap (λ (s : Step). ended_lines s.ended ++ lines_from s.held input) step ∙ ap (λ l. cut_of line ∷ l) rest.2,
     ))
-    (λ ne. let rest = cuts input (line ++ b ∷ []) (all_more line b h ne) in
+    (λ ne. let rest = cuts input (line ++ b ∷ []) (All-push Inside line b h ne) in
     let step = cond-false (eqb b 10) _ _ (ne_eqb b 10 ne) in (
       rest.0,
       subst (λ l. LinesOf l rest.0) (append_assoc line (b ∷ []) input) rest.1,

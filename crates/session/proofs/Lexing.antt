@@ -1,12 +1,10 @@
 -- The steps by which a line is cut into tokens.
 use Rattle.std.proofs.Common.{◌≡◌, ℕ, ◌+◌, ◌<◌, ◌≤◌, Bool, true, false, List, [], ◌∷◌, ◌++◌, length, get_or, take, drop, sym, refl, ap, ◌∙◌, subst, append-nil, arith, length-append, length-drop}
+use Rattle.std.proofs.lemmas.Bool.{both_ways}
 use Rattle.std.proofs.lemmas.List.{append_cancel_left, drop-drop, take-append-drop, length-take-le}
 use Rattle.session.specs.declared.lexer.Token.{Token}
 use Rattle.session.specs.Tokens.{Lexeme, opening, closing, word_of, word_byte, WordBytes, Valid, space, gap, spelling, is_opening, lexeme, lexemes, offset, render, Lexes, Placed}
 use Rattle.session.specs.Steps.{WordEnds, Whole, Step}
-
-pub clash : (b : Bool) → b ≡ true → b ≡ false → ⊥
-clash b p q = let z : ◌≡◌ {A = ℕ} 0 1 = cc in omega arith
 
 head_is : {x y : ℕ} {xs ys : List ℕ} → x ∷ xs ≡ y ∷ ys → x ≡ y
 head_is e = ap (λ l. get_or l 0 0) e
@@ -17,7 +15,7 @@ tail_is e = ap (λ l. drop 1 l) e
 -- no byte of a word comes where a word ends
 stops_at : (r : List ℕ) (c : ℕ) (v : List ℕ) → WordEnds r → r ≡ c ∷ v → word_byte c ≡ true → ⊥
 stops_at [] c v s e p = let z : ◌≡◌ {A = ℕ} 0 1 = cc in omega arith
-stops_at (x ∷ r) c v s e p = clash (word_byte c) p (subst (λ y. word_byte y ≡ false) (head_is e) s)
+stops_at (x ∷ r) c v s e p = both_ways (word_byte c) (subst (λ y. word_byte y ≡ false) (head_is e) s) p
 
 -- two words that come first, each with all its bytes, are the same
 span_unique : (w v r s : List ℕ) → WordBytes w → WordBytes v → WordEnds r → WordEnds s → w ++ r ≡ v ++ s → (w ≡ v) × (r ≡ s)
@@ -33,7 +31,7 @@ span_unique (c ∷ w) (d ∷ v) r s pw pv sr ss e =
 -- a word is no parenthesis
 not_word : (w : List ℕ) (b : ℕ) (r s : List ℕ) → word_byte b ≡ false → 0 < length w → WordBytes w → w ++ r ≡ b ∷ s → ⊥
 not_word [] b r s n l p e = omega arith
-not_word (c ∷ w) b r s n l p e = clash (word_byte c) p.0 (subst (λ y. word_byte y ≡ false) (sym (head_is e)) n)
+not_word (c ∷ w) b r s n l p e = both_ways (word_byte c) (subst (λ y. word_byte y ≡ false) (sym (head_is e)) n) p.0
 
 spaced : (first : Bool) (r s : List ℕ) (b : ℕ) → (b ≡ 41 → ⊥) → space first ++ b ∷ r ≡ 41 ∷ s → ⊥
 spaced true r s b n e = n (head_is e)

@@ -1,6 +1,7 @@
 -- Byte enables over 255 are taken as 255: a burst with an enable over 15 is refused, whichever it is.
 use Rattle.std.proofs.Common.{◌≡◌, ℕ, suc, ◌≤◌, min, Bool, true, false, cond, ◌||◌, ltb, List, [], ◌∷◌, map, length, take, Some, Err, Result, sym, refl, ap, ◌∙◌, arith, ltb-false}
-use Rattle.std.proofs.lemmas.List.{take_all}
+use Rattle.std.proofs.lemmas.List.{length-map, take_all}
+use Rattle.std.proofs.lemmas.Bool.{or_parts, or_right}
 use Rattle.std.proofs.lemmas.Bool.Decides.{nat_tests}
 use Rattle.memory.specs.Answers.{refusal}
 use Rattle.bridge.specs.declared.bursts.BurstRefusal.{BurstRefusal}
@@ -21,20 +22,11 @@ use Rattle.session.specs.declared.session.Session.{Session}
 use Rattle.session.specs.Replies.{ok_text, reply_answer, reply_text, write_labels}
 use Rattle.session.specs.Sessions.{Does, RefusedFor, answer_text, is_kind, served, session_state, write_burst, write_text}
 
-any_true : (a b c : Bool) → c ≡ true → (a || (b || c)) ≡ true
-any_true true b c e = refl
-any_true false true c e = refl
-any_true false false c e = e
-
-none_true : (a b : Bool) → (a || b) ≡ false → (a ≡ false) × (b ≡ false)
-none_true true b e = absurd (let z : ◌≡◌ {A = ℕ} 0 1 = cc in omega arith)
-none_true false b e = (refl, e)
-
 -- a burst with an enable over 15 is refused with 1
 wide_refused : (s : State) (pci count : ℕ) (words enables : List ℕ) → wide_enable (take count enables) ≡ true → performed s (card (card_write pci count words enables)) ≡ record { state = s; answer = refusal 1 []; buffer = [] }
 wide_refused s pci count words enables wide =
     let b = card_write pci count words enables in
-    ap (λ t. burst_outcome s b (cond t (Some 1) (cond (misaligned b) (Some 2) (third_check s.control.registers pci)))) (any_true (wrong_count pci count words) (ltb (length enables) count) (wide_enable (take count enables)) wide)
+    ap (λ t. burst_outcome s b (cond t (Some 1) (cond (misaligned b) (Some 2) (third_check s.control.registers pci)))) (or_right (wrong_count pci count words) _ (or_right (ltb (length enables) count) _ wide))
 
 abbrev narrowed : List Pair → List ℕ
 narrowed pairs = map (λ (p : Pair). min p.enables 255) pairs
@@ -52,17 +44,13 @@ wide_same (p ∷ pairs) = λ i. test_same p.enables i || wide_same pairs i
 narrow_same : (pairs : List Pair) → wide_enable (written pairs) ≡ false → narrowed pairs ≡ written pairs
 narrow_same [] none = refl
 narrow_same (p ∷ pairs) none =
-    let both = none_true (ltb 15 p.enables) (wide_enable (written pairs)) none in
+    let both = or_parts (ltb 15 p.enables) (wide_enable (written pairs)) none in
     let few : p.enables ≤ 15 = ltb-false 15 p.enables both.0 in
     let same : min p.enables 255 ≡ p.enables = omega arith in
     λ i. same i ∷ narrow_same pairs both.1 i
 
-length_enables : (pairs : List Pair) (f : Pair → ℕ) → length (map f pairs) ≡ length pairs
-length_enables [] f = refl
-length_enables (p ∷ pairs) f = ap suc (length_enables pairs f)
-
 all_taken : (pairs : List Pair) (f : Pair → ℕ) → take (length pairs) (map f pairs) ≡ map f pairs
-all_taken pairs f = take_all (length pairs) (map f pairs) (let l = length_enables pairs f in omega arith)
+all_taken pairs f = take_all (length pairs) (map f pairs) (let l = length-map pairs f in omega arith)
 
 performed_narrowed : (s : State) (pci : ℕ) (words : List ℕ) (pairs : List Pair) (wide : Bool) → wide_enable (written pairs) ≡ wide → performed s (card (card_write pci (length pairs) words (narrowed pairs))) ≡ performed s (card (card_write pci (length pairs) words (written pairs)))
 performed_narrowed s pci words pairs true e =

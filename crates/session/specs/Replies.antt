@@ -24,7 +24,7 @@ use Rattle.session.specs.Hex.{Reads}
 abbrev pub digit : ℕ → ℕ
 digit d = cond (nat_lt d 10) (48 + d) (87 + d)
 
--- the digits of a number, the highest first; `digitsOf 16 n` has none for 0
+-- the digits of a number, the highest first; `digits_of 16 n` has none for 0
 unfoldable pub hex : ℕ → List ℕ
 hex n = cond (n == 0) (48 ∷ []) (map digit (digits_of 16 n))
 

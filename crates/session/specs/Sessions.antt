@@ -19,6 +19,10 @@ use Rattle.session.specs.declared.replies.Reply.{Reply}
 use Rattle.session.specs.declared.replies.FormRefusal.{FormRefusal}
 use Rattle.session.specs.declared.replies.FormRefusal.TheVariants as F
 use Rattle.session.specs.declared.replies.Reply.TheVariants.{Done, Value, Decoded, Log, Longwords, Counts, Refused}
+use Rattle.session.specs.declared.lexer.LineError.{LineError}
+use Rattle.session.specs.declared.lexer.LineError.TheVariants as L
+use Rattle.session.specs.declared.session.FormError.{FormError}
+use Rattle.session.specs.declared.session.FormError.TheVariants as E
 use Rattle.session.specs.declared.session.Session.{Session}
 use Rattle.session.specs.Forms.{Asked, Spells}
 use Rattle.session.specs.InputLines.{Cut, kept, too_long}
@@ -126,6 +130,18 @@ form_state s (N.CardWrite, x) = (form_outcome s (N.CardWrite, x)).state
 abbrev pub reply_of : Result Reply FormRefusal → Reply
 reply_of (Ok reply) = reply
 reply_of (Err e) = Refused e
+
+-- what a form comes to that may need memory: its reply does this, or the refusal that is its reply, and where there is no
+-- memory the session stays as it was
+abbrev pub Comes : (Reply → Session → Type 0) → Session → Result Reply FormError → Session → Type 0
+Comes P before (Ok reply) after = P reply after
+Comes P before (Err (E.Refused e)) after = P (Refused e) after
+Comes P before (Err E.NoMemory) after = after ≡ before
+
+-- what a line comes to of which nothing is read
+abbrev pub unread : LineError → FormError
+unread L.Malformed = E.Refused F.Malformed
+unread L.NoMemory = E.NoMemory
 
 -- which refusals a form of each name has
 abbrev pub refuses_by : Name → FormRefusal → Bool

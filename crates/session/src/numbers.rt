@@ -7,7 +7,7 @@ ghost use Rattle.std.specs.Str.Parse.{digits_value};
 pub fn number(word: &[u8]) -> Option<u64>
     ensures { SomeIff result (HexWord word.now) (digits_value 16 word.now) }
 {
-    if word.is_empty() || word.len() > 16 {
+    if !(1..=16).contains(&word.len()) {
         return None;
     }
     let mut n: u64 = 0;

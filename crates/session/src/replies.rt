@@ -204,8 +204,7 @@ fn write_reading<W: fmt::Write>(reading: &LogReading, f: &mut fmt::Formatter<W>)
 fn write_longwords<W: fmt::Write>(words: &[u32], f: &mut fmt::Formatter<W>) -> fmt::Result
     ensures { WritesOnOk W.write_str_gives f.old result (spaced_numbers words.now) f.new }
 {
-    for word in words {
-        let word = *word;
+    for &word in words {
         write!(f, " {word:x}")?;
     }
     Ok(())
@@ -217,10 +216,7 @@ impl fmt::Display for Reply {
     fn fmt<W: fmt::Write>(&self, f: &mut fmt::Formatter<W>) -> fmt::Result {
         match self {
             Reply::Done => f.write_str("(ok)"),
-            Reply::Value(n) => {
-                let n = *n;
-                write!(f, "(ok {n:x})")
-            }
+            &Reply::Value(n) => write!(f, "(ok {n:x})"),
             Reply::Decoded(cycle) => {
                 let Cycle { space, pci, lanes } = *cycle;
                 write!(f, "(ok {space} {pci:x} {lanes:x})")

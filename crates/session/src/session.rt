@@ -7,10 +7,12 @@ ghost use Rattle.bridge.specs.Performed.{AnswersRequest, answer_of, request_of};
 ghost use Rattle.bridge.specs.Processor.{OfLine, access_cause};
 ghost use Rattle.bridge.specs.State.{new_state};
 ghost use Rattle.session.specs.declared.forms.Name.TheVariants as N;
+ghost use Rattle.session.specs.declared.replies.FormRefusal.TheVariants as F;
+ghost use Rattle.session.specs.declared.session.FormError.TheVariants.{NoMemory, Refused};
 ghost use Rattle.session.specs.Forms.{asked, pair_of};
 ghost use Rattle.session.specs.InputLines.{line_given};
 ghost use Rattle.session.specs.Quadwords.{cpu_load, cpu_store};
-ghost use Rattle.session.specs.Sessions.{Answered, Does, InputAnswered, reply_of, requested, session_state};
+ghost use Rattle.session.specs.Sessions.{Answered, Comes, Does, InputAnswered, reply_of, requested, session_state, unread};
 
 use crate::forms::{Form, Pair, read_form};
 use crate::input::{InputLine, TooLong};
@@ -18,6 +20,7 @@ use crate::lexer::LineError;
 use crate::quadwords::put_quadword;
 use crate::replies::{FormRefusal, Reply};
 use bridge::Bridge;
+use bridge::bursts::{ReadRefusal, WriteRefusal};
 use bridge::calls::{Burst, Call, CallAnswer, Request};
 use bridge::line::quadword;
 use bridge::processor::AccessRefusal;
@@ -31,8 +34,58 @@ const BYTES: usize = 0x1_0000;
 // The longwords of the largest card read.
 const MOST_LONGWORDS: u64 = 64;
 
-// What a form comes to: the reply of its success, or why it is refused.
+// What a form comes to where it needs no memory: the reply of its success, or why it is refused.
 type FormResult = Result<Reply, FormRefusal>;
+
+// Why a form has no success: it is refused, or there is no memory to do it with.
+#[derive(Clone, Copy)]
+enum FormError {
+    Refused(FormRefusal),
+    NoMemory,
+}
+
+impl From<FormRefusal> for FormError {
+    ghost from_gives = { λ refusal e. e ≡ Refused refusal };
+
+    fn from(refusal: FormRefusal) -> FormError {
+        FormError::Refused(refusal)
+    }
+}
+
+impl From<ReadRefusal> for FormError {
+    ghost from_gives = { λ refusal e. e ≡ Refused (F.Read refusal) };
+
+    fn from(refusal: ReadRefusal) -> FormError {
+        FormError::Refused(refusal.into())
+    }
+}
+
+impl From<WriteRefusal> for FormError {
+    ghost from_gives = { λ refusal e. e ≡ Refused (F.Write refusal) };
+
+    fn from(refusal: WriteRefusal) -> FormError {
+        FormError::Refused(refusal.into())
+    }
+}
+
+impl From<AllocError> for FormError {
+    ghost from_gives = { λ _ e. e ≡ NoMemory };
+
+    fn from(_: AllocError) -> FormError {
+        FormError::NoMemory
+    }
+}
+
+impl From<LineError> for FormError {
+    ghost from_gives = { λ line e. e ≡ unread line };
+
+    fn from(line: LineError) -> FormError {
+        match line {
+            LineError::Malformed => FormError::Refused(FormRefusal::Malformed),
+            LineError::NoMemory => FormError::NoMemory,
+        }
+    }
+}
 
 #[derive(Drop)]
 pub struct Session {
@@ -74,7 +127,7 @@ impl Session {
         ensures after { session_state self.new ≡ session_state self.old }
     {
         let CallAnswer::Load(result) = self.request(Request::Load { address }) else {
-            unreachable()
+            unreachable!()
         };
         result
     }
@@ -86,7 +139,7 @@ impl Session {
         ensures after { session_state self.new ≡ (requested self.old (store address bytes)).state }
     {
         let CallAnswer::Store(result) = self.request(Request::Store { address, bytes }) else {
-            unreachable()
+            unreachable!()
         };
         result
     }
@@ -145,7 +198,7 @@ impl Session {
     {
         let CallAnswer::RegisterRead(result) = self.request(Request::RegisterRead { n: register })
         else {
-            unreachable()
+            unreachable!()
         };
         Ok(Reply::Value(u64::from(result?)))
     }
@@ -156,7 +209,7 @@ impl Session {
     {
         let request = Request::RegisterWrite { n: register, value };
         let CallAnswer::RegisterWrite(result) = self.request(request) else {
-            unreachable()
+            unreachable!()
         };
         result?;
         Ok(Reply::Done)
@@ -167,7 +220,7 @@ impl Session {
         ensures { Does self.old (N.Pci, address) (reply_of result) self.new }
     {
         let CallAnswer::Decode(result) = self.request(Request::Decode { cpu: address }) else {
-            unreachable()
+            unreachable!()
         };
         Ok(Reply::Decoded(result?))
     }
@@ -177,7 +230,7 @@ impl Session {
         ensures { Does self.old (N.Log, tt) result self.new }
     {
         let CallAnswer::LogRead(reading) = self.request(Request::LogRead) else {
-            unreachable()
+            unreachable!()
         };
         Reply::Log(reading)
     }
@@ -191,37 +244,28 @@ impl Session {
     }
 
     // Serves a card's read, into a buffer that the reply keeps.
-    fn card_read(&mut self, heap: Global, pci: u32, count: u64) -> Result<FormResult, AllocError>
-        ensures replied { IfOk result (λ outcome. Does self.old (N.CardRead, (pci, count)) (reply_of outcome) self.new) }
-        ensures unchanged { OnErr result (self.new ≡ self.old) }
+    fn card_read(&mut self, heap: Global, pci: u32, count: u64) -> Result<Reply, FormError>
+        ensures { Comes (Does self.old (N.CardRead, (pci, count))) self.old result self.new }
     {
         let buffer = vec![in heap; 0; count.min(MOST_LONGWORDS) as usize]?;
         let count = count as usize;
         let mut call = Call::Card(Burst::CardRead { pci, count, buffer });
         let CallAnswer::CardRead(result) = self.bridge.perform(&mut call) else {
-            unreachable()
+            unreachable!()
         };
-        if let Err(refusal) = result {
-            return Ok(Err(refusal.into()));
-        }
+        result?;
         let Call::Card(burst) = call else {
-            unreachable()
+            unreachable!()
         };
         let Burst::CardRead { buffer, .. } = burst else {
-            unreachable()
+            unreachable!()
         };
-        Ok(Ok(Reply::Longwords(buffer)))
+        Ok(Reply::Longwords(buffer))
     }
 
     // Serves a card's write.
-    fn card_write(
-        &mut self,
-        heap: Global,
-        pci: u32,
-        pairs: &[Pair],
-    ) -> Result<FormResult, AllocError>
-        ensures replied { IfOk result (λ outcome. Does self.old (N.CardWrite, (pci, map pair_of pairs.now)) (reply_of outcome) self.new) }
-        ensures unchanged { OnErr result (self.new ≡ self.old) }
+    fn card_write(&mut self, heap: Global, pci: u32, pairs: &[Pair]) -> Result<Reply, FormError>
+        ensures { Comes (Does self.old (N.CardWrite, (pci, map pair_of pairs.now))) self.old result self.new }
     {
         let (words, enables) = split_pairs(heap, pairs)?;
         let mut call = Call::Card(Burst::CardWrite {
@@ -231,31 +275,35 @@ impl Session {
             enables,
         });
         let CallAnswer::CardWrite(result) = self.bridge.perform(&mut call) else {
-            unreachable()
+            unreachable!()
         };
-        match result {
-            Ok(counts) => Ok(Ok(Reply::Counts(counts))),
-            Err(refusal) => Ok(Err(refusal.into())),
-        }
+        Ok(Reply::Counts(result?))
     }
 
     // Does what a form asks for. All memory that is needed is had before the bridge is called.
-    fn perform(&mut self, heap: Global, form: &Form) -> Result<FormResult, AllocError>
-        ensures replied { IfOk result (λ outcome. Does self.old (asked form.now) (reply_of outcome) self.new) }
-        ensures unchanged { OnErr result (self.new ≡ self.old) }
+    fn perform(&mut self, heap: Global, form: &Form) -> Result<Reply, FormError>
+        ensures { Comes (Does self.old (asked form.now)) self.old result self.new }
     {
         match form {
-            Form::CpuStore { address, value } => Ok(self.cpu_store(*address, *value)),
-            Form::CpuLoad { address } => Ok(self.cpu_load(*address)),
-            Form::Mark { line } => Ok(self.mark(*line)),
-            Form::RegRead { register } => Ok(self.reg_read(*register)),
-            Form::RegWrite { register, value } => Ok(self.reg_write(*register, *value)),
-            Form::Pci { address } => Ok(self.pci(*address)),
-            Form::Log => Ok(Ok(self.log())),
-            Form::LogClear => Ok(Ok(self.log_clear())),
+            Form::CpuStore { address, value } => Ok(self.cpu_store(*address, *value)?),
+            Form::CpuLoad { address } => Ok(self.cpu_load(*address)?),
+            Form::Mark { line } => Ok(self.mark(*line)?),
+            Form::RegRead { register } => Ok(self.reg_read(*register)?),
+            Form::RegWrite { register, value } => Ok(self.reg_write(*register, *value)?),
+            Form::Pci { address } => Ok(self.pci(*address)?),
+            Form::Log => Ok(self.log()),
+            Form::LogClear => Ok(self.log_clear()),
             Form::CardRead { pci, count } => self.card_read(heap, *pci, *count),
             Form::CardWrite { pci, pairs } => self.card_write(heap, *pci, pairs.as_slice()),
         }
+    }
+
+    // Does what a line asks for.
+    fn perform_line(&mut self, heap: Global, line: &[u8]) -> Result<Reply, FormError>
+        ensures { Comes (Answered self.old line.now) self.old result self.new }
+    {
+        let form = read_form(heap, line)?;
+        self.perform(heap, &form)
     }
 
     // The reply to a line of the input: one that is too long spells no form.
@@ -274,15 +322,10 @@ impl Session {
         ensures answered { IfOk result (λ reply. Answered self.old line.now reply self.new) }
         ensures unchanged { OnErr result (self.new ≡ self.old) }
     {
-        match read_form(heap, line) {
-            Ok(form) => {
-                let outcome = self.perform(heap, &form)?;
-                Ok(outcome.unwrap_or_else(Reply::Refused))
-            }
-            Err(error) => match error {
-                LineError::Malformed => Ok(Reply::Refused(FormRefusal::Malformed)),
-                LineError::NoMemory => Err(AllocError),
-            },
+        match self.perform_line(heap, line) {
+            Ok(reply) => Ok(reply),
+            Err(FormError::Refused(refusal)) => Ok(Reply::Refused(refusal)),
+            Err(FormError::NoMemory) => Err(AllocError),
         }
     }
 }
@@ -291,7 +334,7 @@ impl Session {
 fn byte_enables(number: u64) -> u8
     ensures { result ≡ min number 255 }
 {
-    number.min(255) as u8
+    u8::try_from(number).unwrap_or(u8::MAX)
 }
 
 // The longwords of pairs, and their byte enables.
