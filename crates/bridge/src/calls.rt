@@ -26,7 +26,8 @@ pub enum Request {
     LogClear,
 }
 
-// What a card asks. A read has its own buffer.
+// What a card asks. A read has its own buffer; a write has what its call is given, which may be shorter than the count, and is
+// then refused.
 #[derive(Drop)]
 pub enum Burst {
     CardRead {

@@ -37,7 +37,8 @@ pub struct FaultRecord {
     pub pci: u32,
 }
 
-// What a filled log says: the first fault since it was cleared, and whether others came after it.
+// What a filled log says: the first fault since it was cleared, and whether others came after it. The two are always there
+// together.
 #[derive(Clone, Copy, Debug, PartialEq, Eq)]
 pub struct LogReading {
     pub first: FaultRecord,

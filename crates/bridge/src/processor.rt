@@ -53,7 +53,7 @@ fn line_at(address: u64) -> Result<u64, AccessRefusal>
 }
 
 impl<M: Memory> Bridge<M> {
-    // What a register reads.
+    // What a register reads. Any number may be asked, and one that names no register is refused.
     pub fn register_read(&self, n: u64) -> Result<u32, RegisterRefusal>
         ensures answer { answered (λ value. value ∷ []) register_cause result ≡ (performed (state_of M.Memory.content self.now) (processor (register_read n))).answer }
         ensures which { IfErr result (λ e. e ≡ NotListed) }

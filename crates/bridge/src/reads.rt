@@ -63,8 +63,10 @@ impl<M: Memory> Bridge<M> {
         ensures { read_outcome (state_of M.Memory.content self.new) buffer.new result ≡ burst_outcome (state_of M.Memory.content self.old) (card_read pci count buffer.old) (third_check self.old.registers pci) }
     {
         let mut moved = 0;
+        // A turn takes the longwords of a line, of which there are one to eight.
         while moved < count {
             let here = pci + 4 * moved as u32;
+            // 3 or 4 leaves the loop here.
             let Some((number, mapped)) = self.registers.claim(here) else {
                 return Err(no_window(moved == 0, ReadEnd::NoWindow { moved }));
             };

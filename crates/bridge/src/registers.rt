@@ -122,6 +122,7 @@ impl Registers {
         ensures answer { result ≡ write_result register }
         ensures after { self.new ≡ registers_written self.old register value }
     {
+        // Two arms for a register of both windows: lending one of two fields would need a clause about the loan.
         match register {
             Register::TranslatedBase(1) => self.first.set_translated(value),
             Register::TranslatedBase(_) => self.second.set_translated(value),

@@ -90,9 +90,11 @@ impl<M: Memory> Bridge<M> {
         ensures { write_outcome (state_of M.Memory.content self.new) result ≡ burst_outcome (state_of M.Memory.content self.old) (card_write pci count words.now enables.now) (third_check self.old.registers pci) }
     {
         let mut counts = WriteCounts::default();
+        // A turn takes the longwords of a line, of which there are one to eight.
         while counts.takes_more(count) {
             let first = counts.taken;
             let here = pci + 4 * first as u32;
+            // 3 or 4 leaves the loop here.
             let Some((number, mapped)) = self.registers.claim(here) else {
                 return Err(no_window(first == 0, WriteEnd { counts }));
             };

@@ -6,7 +6,7 @@ ghost use Rattle.memory.specs.Banks.{BankListsJudged, list_answer, list_cause, l
 
 use crate::banks::{Bank, BankListRefusal, check};
 
-// One to eight banks, laid one behind the other in `room` bytes.
+// One to eight banks, laid one behind the other in `room` bytes. An array with its count is `Copy`, and allocates nothing.
 #[derive(Clone, Copy)]
 pub struct BankList {
     banks: [Bank; 8],

@@ -3,7 +3,7 @@ ghost use Rattle.std.specs.Prelude.{◌≡◌, ◌+◌, ◌≤◌, length, take,
 ghost use borrow.Rule.Slice.PartMut.{put_mid};
 ghost use Rattle.memory.specs.Content.{merged};
 
-// Puts the bytes whose mask bit is set into a line.
+// Puts the bytes whose mask bit is set into a line. It is a slice, since a part lent as an array is not followed back.
 fn merge(line: &mut [u8], new: &[u8; 32], mask: u32)
     requires { length line.old ≡ 32 }
     ensures { line.new ≡ merged mask line.old new.now }

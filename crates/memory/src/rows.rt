@@ -19,7 +19,7 @@ impl<R: Row> Row for Option<R> {
     }
 }
 
-// The index of the first row that answers for n; none exactly if no row does.
+// The index of the first row that answers for n; none exactly if no row does. Rows are looked at from the first to the last.
 pub fn find<R: Row>(rows: &[R], n: u64) -> Option<usize>
     ensures { Finds (λ row. R.answers row n) rows.now result }
 {

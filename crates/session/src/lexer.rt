@@ -101,6 +101,7 @@ pub fn tokens(heap: Global, line: &[u8]) -> Result<Vec<Token<'_>>, LineError>
     let mut out = Vec::new(heap);
     let mut at = 0;
     let mut first = true;
+    // A turn takes a token, and finds where it ends.
     while at < line.len() {
         let (token, end) = token_at(line, at, first).ok_or(LineError::Malformed)?;
         out.push(token)?;

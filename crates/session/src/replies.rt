@@ -218,6 +218,7 @@ impl fmt::Display for Reply {
             Reply::Done => f.write_str("(ok)"),
             &Reply::Value(n) => write!(f, "(ok {n:x})"),
             Reply::Decoded(cycle) => {
+                // Copied: a number behind a reference has no bound in the proof.
                 let Cycle { space, pci, lanes } = *cycle;
                 write!(f, "(ok {space} {pci:x} {lanes:x})")
             }

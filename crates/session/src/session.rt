@@ -110,7 +110,7 @@ impl Session {
         Session::over(heap, BYTES)
     }
 
-    // Asks the bridge what the processor asks.
+    // Asks the bridge what the processor asks. Each caller takes its own kind of answer, which is the kind that is promised.
     fn request(&mut self, request: Request) -> CallAnswer
         ensures answer { answer_of result ≡ (requested self.old (request_of request)).answer }
         ensures kind { AnswersRequest request result }

@@ -81,7 +81,8 @@ impl Registers {
         }
     }
 
-    // Which window holds an address, by its number, and whether it is mapped. Window 1 is tried first.
+    // Which window holds an address, by its number, and whether it is mapped: the device answers both together. Window 1 is tried
+    // first.
     pub(crate) fn claim(&self, pci: u32) -> Option<(u8, bool)>
         ensures { result ≡ claim self.now pci }
     {
