@@ -1,8 +1,6 @@
-use Rattle.std.proofs.Common.{get_or, Some, Ok, codes, sym, refl, ap, arith}
+use Rattle.std.proofs.Common.{get_or, Some, Ok, codes, sym, refl, arith}
 use Rattle.std.specs.Fmt.{◌++?◌}
 use Rattle.std.proofs.Output.{has_written_of_eq, has_written_append}
-use Rattle.std.proofs.lemmas.List.{take_all}
-use Rattle.session.specs.Replies.{spaced_numbers}
 use Rattle.session.proofs.HexText.{hex_place}
 use Rattle.session.proofs.ReplyTexts.{displayed, spaced_more}
 use Rattle.session.proofs.replies.write_longwords.Goals as goal
@@ -16,6 +14,3 @@ loop-word-preserved g c plain =
     let n = hex_place (get_or ns i 0) c.in_radix.ensures (omega arith) in
     let y = displayed took _ _ (Ok c.in_ok-write.field-0) _ _ (λ j. Some (codes " ") ++? n j) c.in_ok-write.ensures.writes x.plain refl in
     has_written_of_eq took _ _ _ _ (sym (spaced_more ns i c.loop-word-test.true)) (has_written_append took _ _ _ _ _ x y)
-
-pub returns : goal.returns
-returns g c plain ok = has_written_of_eq g.W.Write.write_str_gives _ _ _ _ (ap spaced_numbers (take_all c.loop-word.word-index c.args.words.now c.loop-word-test.false)) (c.loop-word.invariant plain)
