@@ -13,4 +13,3 @@ pub mod RowFacts
 pub mod WitnessFacts
 pub mod RegisterFacts
 pub mod DecodeFacts
-pub mod ResultFacts
