@@ -82,6 +82,6 @@ args_meant N.CardRead x h = (hex x.0, hex x.1, refl, reads_32 x.0 h.0, reads_bac
 args_meant N.CardWrite x h = (hex x.0, pair_tokens x.1, refl, reads_32 x.0 h.0, pairs_meant x.1 h.1)
 
 pub each_spelled : EachSpelled
-each_spelled y served fit short =
+each_spelled y fit short =
     let us = payload_tokens y.0 y.1 in
-    (short, opening ∷ word_of (name_bytes y.0) ∷ us, record { bytes = refl; valid = (tt, (name_valid y.0, tokens_valid y.0 y.1 fit)) }, (us, refl, args_meant y.0 y.1 fit, served))
+    (short, opening ∷ word_of (name_bytes y.0) ∷ us, record { bytes = refl; valid = (tt, (name_valid y.0, tokens_valid y.0 y.1 fit)) }, (us, refl, args_meant y.0 y.1 fit))

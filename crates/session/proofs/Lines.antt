@@ -7,7 +7,7 @@ use Rattle.session.specs.declared.forms.Name.{Name}
 use Rattle.session.specs.declared.forms.Name.TheVariants as N
 use Rattle.session.specs.declared.forms.Form.{Form}
 use Rattle.session.specs.Tokens.{Lexeme, opening, word_of, Lexes}
-use Rattle.session.specs.Forms.{is_served, name_bytes, Payload, Args, ArgsParsed, Asked, asked, Means, Spells, Parsed}
+use Rattle.session.specs.Forms.{name_bytes, Payload, Args, ArgsParsed, Asked, asked, Means, Spells, Parsed}
 use Rattle.session.proofs.Lexing.{lexes_once}
 
 -- a name is known by its bytes
@@ -40,16 +40,16 @@ same_name v w e = sym (named_back v) ∙ ap named e ∙ named_back w
 
 -- with the name v known, only forms of that name are left
 pub only : (ts us : List Lexeme) (v : Name) → ts ≡ opening ∷ word_of (name_bytes v) ∷ us → (y : Asked) → Means ts y → (x : Payload v) × (y ≡ (v, x)) × Args v us x
-only ts us v e (w, x) (vs, is, a, served) =
+only ts us v e (w, x) (vs, is, a) =
     let z = sym is ∙ e in
     let n : name_bytes w ≡ name_bytes v = cc in
     let r : vs ≡ us = cc in
     subst (λ u. (q : Payload u) × (◌≡◌ {A = Asked} (w, x) (u, q)) × Args u us q) (same_name w v n) (x, refl, subst (λ l. Args w l x) r a)
 
-pub form_parsed : (ts us : List Lexeme) (v : Name) (r : Result Form LineError) → ts ≡ opening ∷ word_of (name_bytes v) ∷ us → is_served v ≡ true → ArgsParsed v us r → Parsed asked r (Means ts)
-form_parsed ts us v (Ok f) e served h = subst (Means ts) (sym h.1) (us, e, h.2, served)
-form_parsed ts us v (Err Malformed) e served h = λ y m. let o = only ts us v e y m in h o.0 o.2
-form_parsed ts us v (Err NoMemory) e served h = tt
+pub form_parsed : (ts us : List Lexeme) (v : Name) (r : Result Form LineError) → ts ≡ opening ∷ word_of (name_bytes v) ∷ us → ArgsParsed v us r → Parsed asked r (Means ts)
+form_parsed ts us v (Ok f) e h = subst (Means ts) (sym h.1) (us, e, h.2)
+form_parsed ts us v (Err Malformed) e h = λ y m. let o = only ts us v e y m in h o.0 o.2
+form_parsed ts us v (Err NoMemory) e h = tt
 
 pub line_parsed : (line : List ℕ) (ts : List Lexeme) (r : Result Form LineError) → length line ≤ 256 → Lexes true line ts → Parsed asked r (Means ts) → Parsed asked r (Spells line)
 line_parsed line ts (Ok f) n l h = (n, ts, l, h)

@@ -1,10 +1,10 @@
 -- A line for each form: its name and its numbers in lower-case digits, one space apart.
-use Rattle.std.specs.Prelude.{◌≡◌, ℕ, ◌^◌, ◌<◌, ◌≤◌, true, List, [], ◌∷◌, length}
+use Rattle.std.specs.Prelude.{ℕ, ◌^◌, ◌<◌, ◌≤◌, true, List, [], ◌∷◌, length}
 use Rattle.std.specs.List.{AllByRecursion}
 use Rattle.session.specs.declared.forms.Name.{Name}
 use Rattle.session.specs.declared.forms.Name.TheVariants as N
 use Rattle.session.specs.Tokens.{Lexeme, opening, closing, word_of, render}
-use Rattle.session.specs.Forms.{Asked, Payload, Spells, is_served, name_bytes}
+use Rattle.session.specs.Forms.{Asked, Payload, Spells, name_bytes}
 use Rattle.session.specs.Replies.{hex}
 
 abbrev pub number_token : ℕ → Lexeme
@@ -54,6 +54,6 @@ NumbersFit N.LogClear x = Unit {0}
 NumbersFit N.CardRead x = BothBelow 32 64 x
 NumbersFit N.CardWrite x = (x.0 < 2 ^ 32) × AllByRecursion (BothBelow 32 64) x.1
 
--- every form that is served, whose numbers fit, and whose line has at most 256 bytes, is spelled by that line
+-- every form whose numbers fit, and whose line has at most 256 bytes, is spelled by that line
 abbrev pub EachSpelled : Type 0
-EachSpelled = (y : Asked) → is_served y.0 ≡ true → NumbersFit y.0 y.1 → length (form_line y) ≤ 256 → Spells (form_line y) y
+EachSpelled = (y : Asked) → NumbersFit y.0 y.1 → length (form_line y) ≤ 256 → Spells (form_line y) y

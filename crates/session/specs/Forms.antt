@@ -1,5 +1,5 @@
 -- Which lines are forms, and what each form asks for.
-use Rattle.std.specs.Prelude.{◌≡◌, ℕ, ◌≤◌, Bool, true, false, List, [], ◌∷◌, map, length, Ok, Err, vec_items, codes, Result, ◌≢◌}
+use Rattle.std.specs.Prelude.{◌≡◌, ℕ, ◌≤◌, true, List, [], ◌∷◌, map, length, Ok, Err, vec_items, codes, Result, ◌≢◌}
 use Rattle.session.specs.declared.lexer.LineError.{LineError}
 use Rattle.session.specs.declared.lexer.LineError.TheVariants.{Malformed, NoMemory}
 use Rattle.session.specs.declared.forms.Name.{Name}
@@ -98,22 +98,9 @@ Args N.LogClear ts x = Ends ts
 Args N.CardRead ts x = Two 32 64 ts x
 Args N.CardWrite ts x = NumberAndPairs ts x
 
--- the forms that are served so far; a line of another name is malformed
-abbrev pub is_served : Name → Bool
-is_served N.CpuStore = true
-is_served N.CpuLoad = true
-is_served N.Mark = true
-is_served N.RegRead = false
-is_served N.RegWrite = false
-is_served N.Pci = false
-is_served N.Log = false
-is_served N.LogClear = false
-is_served N.CardRead = false
-is_served N.CardWrite = false
-
--- the tokens are those of a form that is served, and this is what it asks for
+-- the tokens are those of a form, and this is what it asks for
 abbrev pub Means : List Lexeme → Asked → Type 0
-Means ts y = (us : List Lexeme) × (ts ≡ opening ∷ word_of (name_bytes y.0) ∷ us) × Args y.0 us y.1 × (is_served y.0 ≡ true)
+Means ts y = (us : List Lexeme) × (ts ≡ opening ∷ word_of (name_bytes y.0) ∷ us) × Args y.0 us y.1
 
 -- the line is a form, and this is what it asks for
 abbrev pub Spells : List ℕ → Asked → Type 0

@@ -1,7 +1,7 @@
 // The forms of a session, and how a line is read as one.
 ghost use Rattle.std.specs.Prelude.{◌≡◌, ℕ, map};
 ghost use Rattle.session.specs.FormLines.{EachSpelled};
-ghost use Rattle.session.specs.Forms.{ArgsParsed, Ends, Means, Named, Once, One, Pairs, Parsed, Spells, Two, asked, is_served, pair_of};
+ghost use Rattle.session.specs.Forms.{ArgsParsed, Ends, Means, Named, Once, One, Pairs, Parsed, Spells, Two, asked, pair_of};
 ghost use Rattle.session.specs.Hex.{Reads};
 ghost use Rattle.session.specs.Tokens.{lexemes};
 
@@ -100,15 +100,6 @@ impl TryFrom<&[u8]> for Name {
             b"card-write" => Ok(Name::CardWrite),
             _ => Err(LineError::Malformed),
         }
-    }
-}
-
-impl Name {
-    // Whether forms of the name are served so far.
-    fn is_served(self) -> bool
-        ensures { result ≡ is_served self }
-    {
-        matches!(self, Name::CpuStore | Name::CpuLoad | Name::Mark)
     }
 }
 
@@ -219,9 +210,6 @@ fn form_of(heap: Global, tokens: &[Token]) -> Result<Form, LineError>
         return Err(LineError::Malformed);
     };
     let name = Name::try_from(*word)?;
-    if !name.is_served() {
-        return Err(LineError::Malformed);
-    }
     read_arguments(heap, name, arguments)
 }
 
@@ -241,7 +229,7 @@ pub fn spelled_once()
     ensures { Once }
 {}
 
-// Each form that is served, whose numbers fit and whose line is short enough has a line that spells it.
+// Each form whose numbers fit and whose line is short enough has a line that spells it.
 pub fn each_spelled()
     ensures { EachSpelled }
 {}

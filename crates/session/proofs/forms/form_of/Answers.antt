@@ -1,4 +1,4 @@
-use Rattle.std.proofs.Common.{rules, ◌≡◌, ◌-◌, ◌∷◌, length, take, drop, sym}
+use Rattle.std.proofs.Common.{rules, ◌≡◌, ◌-◌, ◌∷◌, length, take, drop}
 use Rattle.session.specs.Tokens.{lexemes, opening, word_of}
 use Rattle.session.specs.Forms.{name_bytes}
 use Rattle.session.proofs.Arguments.{name_ahead}
@@ -12,4 +12,4 @@ returns c =
     let e : lexemes ts ≡ opening ∷ word_of c.in-Open.word.now ∷ rest = search (rules, name_ahead) in
     let n = c.in_ok-name.ensures in
     let f : lexemes ts ≡ opening ∷ word_of (name_bytes c.in_ok-name.name) ∷ rest = cc in
-    form_parsed (lexemes ts) rest c.in_ok-name.name c.read_arguments.result f (sym c.if-not-is_served.ensures) c.read_arguments.ensures
+    form_parsed (lexemes ts) rest c.in_ok-name.name c.read_arguments.result f c.read_arguments.ensures
