@@ -1,2 +1,3 @@
+pub mod MarkCounts
 pub mod MarkLists
 pub mod MarkedLines

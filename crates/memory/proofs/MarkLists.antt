@@ -1,13 +1,14 @@
 -- Lists of marks: what the search for one finds, one more, one less.
 use Rattle.std.proofs.Common.{◌≡◌, ◌≢◌, ℕ, zero, suc, ◌<◌, Bool, true, false, not, ◌&&◌, ◌||◌, eqb, get_or, List, [], ◌∷◌, ◌++◌, length, is_some, Some, None, Option, sym, refl, ap, ◌∙◌, ⊎_elim, arith}
 use Rattle.std.specs.List.{remove}
-use Rattle.std.proofs.lemmas.Bool.{cond-true, cond-false, cases_Bool, false≢true, eq-eqb, eqb-true, ne_eqb}
+use Rattle.std.proofs.lemmas.Bool.{and_parts, cases_eq, cond-true, cond-false, cases_Bool, false≢true, eq-eqb, eqb-true, ne_eqb}
 use Rattle.std.proofs.lemmas.Bool.Decides.{nat_tests}
 use Rattle.std.proofs.lemmas.List.Folds.{list_any-append, list_any_at}
 use Rattle.std.proofs.lemmas.List.Quantifiers.{all_pairs_push}
 use Rattle.std.proofs.lemmas.List.Recursion.{or_from_places}
 use Rattle.memory.specs.declared.marks.Mark.{Mark}
-use Rattle.memory.specs.Marked.{Distinct, marked, without}
+use Rattle.memory.specs.Content.{Lines, is_present}
+use Rattle.memory.specs.Marked.{AllPresent, Distinct, marked, without}
 use Rattle.memory.specs.Rows.{Finds}
 
 abbrev At : ℕ → Mark → Bool
@@ -52,15 +53,27 @@ head_stays : (a k line : ℕ) (m : Bool) → eqb a line ≡ false → (eqb a k |
 head_stays a k line true h = grind (arith, nat_tests)
 head_stays a k line false h = grind (arith, nat_tests)
 
+pub alone : (m : Mark) (marks : List Mark) → Distinct (m ∷ marks) → marked marks m.line ≡ false
+alone m marks d = unmarked_from marks m.line (λ i h. ne_eqb _ _ (λ e. d 0 (suc i) _ (omega arith) (omega arith) (sym e)))
+
 pub unmarked : (marks : List Mark) (line : ℕ) → Distinct marks → (k : ℕ) → marked (without marks line) k ≡ (marked marks k && not (eqb k line))
 unmarked [] line d k = refl
 unmarked (x ∷ marks) line d k =
-    let alone : marked marks x.line ≡ false =
-    unmarked_from marks x.line (λ i h. ne_eqb _ _ (λ e. d 0 (suc i) _ (omega arith) (omega arith) (sym e))) in
     ⊎_elim
     (λ t. ap (λ xs. marked xs k) (cond-true (eqb x.line line) marks (x ∷ without marks line) t)
-    ∙ head_goes x.line k line (marked marks k) t (λ e. ap (marked marks) (e ∙ sym (eqb-true _ _ t)) ∙ alone))
+    ∙ head_goes x.line k line (marked marks k) t (λ e. ap (marked marks) (e ∙ sym (eqb-true _ _ t)) ∙ alone x marks d))
     (λ t. ap (λ xs. marked xs k) (cond-false (eqb x.line line) marks (x ∷ without marks line) t)
     ∙ ap (λ b. eqb x.line k || b) (unmarked marks line (λ i j e g h. d (suc i) (suc j) e (omega arith) (omega arith)) k)
     ∙ head_stays x.line k line (marked marks k) t)
     (cases_Bool (eqb x.line line))
+
+-- each marked line is there, also after one more that is there, and after one less
+pub present_push : (marks : List Mark) (m : Mark) (lines : Lines) → AllPresent marks lines → is_present (lines m.line) ≡ true → AllPresent (marks ++ m ∷ []) lines
+present_push marks m lines h p line t =
+    ⊎_elim
+    (λ s. ap (λ k. is_present (lines k)) (sym s) ∙ p)
+    (λ ne. h line (sym (ap (λ b. b || marked marks line) (ne_eqb m.line line ne)) ∙ sym (marked_push marks m line) ∙ t))
+    (cases_eq m.line line)
+
+pub present_without : (marks : List Mark) (line : ℕ) (lines : Lines) → Distinct marks → AllPresent marks lines → AllPresent (without marks line) lines
+present_without marks line lines d h k t = h k (and_parts (marked marks k) _ (sym (unmarked marks line d k) ∙ t)).0

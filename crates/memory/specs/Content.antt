@@ -36,6 +36,11 @@ is_present absent = false
 is_present spoiled = true
 is_present (good bytes) = true
 
+abbrev pub is_spoiled : Content → Bool
+is_spoiled absent = false
+is_spoiled spoiled = true
+is_spoiled (good bytes) = false
+
 -- the line that a memory refuses
 abbrev pub memory_line : MemoryFault → ℕ
 memory_line (Absent line) = line

@@ -1,11 +1,11 @@
 -- Marks: a layer that spoils up to 32 lines of the memory below.
-use Rattle.std.specs.Prelude.{ℕ, Bool, true, false, cond, not, ◌&&◌, AllPairs, List, [], ◌∷◌, ◌++◌, length, ◌==◌, ◌≢◌, nat_le}
-use Rattle.std.specs.List.{list_any}
+use Rattle.std.specs.Prelude.{◌≡◌, ℕ, Bool, true, false, cond, not, ◌&&◌, AllPairs, List, [], ◌∷◌, ◌++◌, length, ◌==◌, ◌≢◌, nat_le}
+use Rattle.std.specs.List.{count_by, list_any, range_with_len}
 use Rattle.memory.specs.declared.marks.Mark.{Mark}
 use Rattle.memory.specs.declared.marks.MarkRefusal.{MarkRefusal}
 use Rattle.memory.specs.declared.marks.MarkRefusal.TheVariants.{Absent, Full}
 use Rattle.memory.specs.Answers.{Answer, Cause, bare, success, refusal}
-use Rattle.memory.specs.Content.{Content, Lines, absent, spoiled, good, is_present, all_ones}
+use Rattle.memory.specs.Content.{Content, Lines, absent, spoiled, good, is_present, is_spoiled, all_ones}
 
 abbrev pub marked : List Mark → ℕ → Bool
 marked marks line = list_any (λ m. m.line == line) marks
@@ -23,14 +23,30 @@ spoil (good bytes) = spoiled
 abbrev pub under_marks : List Mark → Lines → Lines
 under_marks marks below line = cond (marked marks line) (spoil (below line)) (below line)
 
+-- no absent line is marked
+abbrev pub AllPresent : List Mark → Lines → Type 0
+AllPresent marks lines = (line : ℕ) → marked marks line ≡ true → is_present (lines line) ≡ true
+
 -- 14 for an absent line, then 17 for a 33rd mark; a marked line again adds nothing
 abbrev pub mark_cause : MarkRefusal → Cause
 mark_cause Absent = bare 14
 mark_cause Full = bare 17
 
+abbrev pub mark_checked : Bool → Bool → ℕ → Answer
+mark_checked there again count = cond (not there) (refusal 14 []) (cond (not again && nat_le 32 count) (refusal 17 []) (success []))
+
 abbrev pub mark_answer : List Mark → Lines → ℕ → Answer
-mark_answer marks below line =
-    cond (not (is_present (below line))) (refusal 14 []) (cond (not (marked marks line) && nat_le 32 (length marks)) (refusal 17 []) (success []))
+mark_answer marks below line = mark_checked (is_present (below line)) (marked marks line) (length marks)
+
+-- where nothing below is spoiled, the marked lines are the spoiled ones, and what the lines hold tells the answer
+abbrev pub NeverSpoiled : Lines → Type 0
+NeverSpoiled lines = (line : ℕ) → is_spoiled (lines line) ≡ false
+
+unfoldable pub spoiled_lines : Lines → ℕ
+spoiled_lines lines = count_by (λ line. is_spoiled (lines line)) (range_with_len 0 0xC000000)
+
+abbrev pub mark_answer_of_lines : Lines → ℕ → Answer
+mark_answer_of_lines lines line = mark_checked (is_present (lines line)) (is_spoiled (lines line)) (spoiled_lines lines)
 
 abbrev pub succeeds : Answer → Bool
 succeeds (success values) = true

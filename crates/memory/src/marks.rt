@@ -2,7 +2,7 @@
 ghost use Rattle.std.specs.Prelude.{◌≡◌, ◌≤◌, [], IfOk, vec_len, vec_capacity, ◌==◌};
 ghost use Rattle.memory.specs.Answers.{answered, no_values};
 ghost use Rattle.memory.specs.Content.{write_answer, written};
-ghost use Rattle.memory.specs.Marked.{Distinct, lines_marked, mark_answer, mark_cause, marked, marks_written, with_mark, without};
+ghost use Rattle.memory.specs.Marked.{AllPresent, Distinct, NeverSpoiled, lines_marked, mark_answer, mark_answer_of_lines, mark_cause, marked, marks_written, with_mark, without};
 ghost use Rattle.std.proofs.Common.{rules};
 
 use crate::refusals::Refusal;
@@ -54,6 +54,7 @@ pub struct Marks<M: Memory> {
     ghost room: { 32 ≤ vec_capacity marks },
     ghost few: { vec_len marks ≤ 32 },
     ghost apart: { Distinct marks.items },
+    ghost there: { AllPresent marks.items (M.Memory.content below) },
 }
 
 impl<M: Memory> Marks<M> {
@@ -89,6 +90,7 @@ impl<M: Memory> Marks<M> {
     // Marks a line that is there. A marked line again adds nothing, and a 33rd is refused.
     pub fn mark(&mut self, line: u64) -> Result<(), MarkRefusal>
         ensures answer { answered no_values mark_cause result ≡ mark_answer (marks_of self.old) (M.Memory.content self.old.below) line }
+        ensures by_lines { NeverSpoiled (M.Memory.content self.old.below) → answered no_values mark_cause result ≡ mark_answer_of_lines (lines_under M.Memory.content self.old) line }
         ensures below { self.new.below ≡ self.old.below }
         ensures marks { marks_of self.new ≡ with_mark (answered no_values mark_cause result) (marks_of self.old) line }
         ensures after { lines_under M.Memory.content self.new ≡ lines_marked (answered no_values mark_cause result) line (lines_under M.Memory.content self.old) }

@@ -1,12 +1,17 @@
 use Rattle.std.proofs.Common.{◌<◌, ◌≢◌, ◌∙◌, length, arith}
 use Rattle.std.proofs.lemmas.List.Quantifiers.{all_pairs_remove}
-use Rattle.memory.proofs.MarkLists.{removed_is, without_none}
+use Rattle.memory.proofs.MarkLists.{present_without, removed_is, without_none}
 use Rattle.memory.proofs.marks.Marks.unmark.Goals as goal
 
 pub invariant_of-self-clause-apart : goal.invariant_of-self-clause-apart
 invariant_of-self-clause-apart g c =
     let within : c.in-Some.i < length c.args.self.now.marks.items = omega (arith, c.in-Some.ensures.0) in
     rw c.remove.ensures.items (all_pairs_remove (λ a b. a.line ≢ b.line) _ c.in-Some.i within c.args.self.now.apart)
+
+pub invariant_of-self-clause-there : goal.invariant_of-self-clause-there
+invariant_of-self-clause-there g c =
+    rw (c.remove.ensures.items ∙ removed_is _ c.in-Some.i c.args.line (simp c.deref.ensures.value at c.in-Some.ensures))
+    (present_without _ c.args.line _ c.args.self.now.apart c.args.self.now.there)
 
 pub returns-in-Some-clause-marks : goal.returns-in-Some-clause-marks
 returns-in-Some-clause-marks g c =
