@@ -87,7 +87,7 @@ refused_text Unclaimed = refl
 refused_text (Ended e) = refl
 
 -- the code's answer and state are what a card-write does
-pub write_does : (s t : Session) (pci : ℕ) (pairs : List Pair) (words enables : List ℕ) (r x : Result WriteCounts (BurstRefusal WriteEnd)) (reply : Reply) → words ≡ map (λ (p : Pair). p.longword) pairs → enables ≡ map (λ (p : Pair). min p.enables 255) pairs → write_answered r ≡ (served s (card_write pci (length pairs) words enables)).answer → session_state t ≡ (served s (card_write pci (length pairs) words enables)).state → r ≡ x → is_kind N.CardWrite reply ≡ true → reply_answer reply ≡ write_answered x → reply_text reply ≡ answer_text ok_text write_labels (write_answered x) → RefusedFor (N.CardWrite, (pci, map pair_of pairs)) reply → Does s (N.CardWrite, (pci, map pair_of pairs)) reply t
+pub write_does : (s t : Session) (pci : ℕ) (pairs : List Pair) (words enables : List ℕ) (r x : Result WriteCounts (BurstRefusal WriteEnd)) (reply : Reply) → words ≡ map (λ (p : Pair). p.longword) pairs → enables ≡ map (λ (p : Pair). min p.enables 255) pairs → write_answered r ≡ (served (session_state s) (card_write pci (length pairs) words enables)).answer → session_state t ≡ (served (session_state s) (card_write pci (length pairs) words enables)).state → r ≡ x → is_kind N.CardWrite reply ≡ true → reply_answer reply ≡ write_answered x → reply_text reply ≡ answer_text ok_text write_labels (write_answered x) → RefusedFor (N.CardWrite, (pci, map pair_of pairs)) reply → Does s (N.CardWrite, (pci, map pair_of pairs)) reply t
 write_does s t pci pairs words enables r x reply w e a after is kind answer text refused =
     let same = same_write (session_state s) pci pairs words enables w e in
     let got = ap write_answered (sym is) ∙ a in

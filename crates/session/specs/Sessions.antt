@@ -1,9 +1,9 @@
 -- A session: its bridge, and what each form answers and leaves.
 use Rattle.std.specs.Prelude.{◌≡◌, ℕ, ◌/◌, min, Bool, true, false, cond, List, [], ◌∷◌, map, length, replicate, Ok, Err, Result, ◌==◌, slice_index}
 use Rattle.memory.specs.Answers.{Answer, success, refusal}
-use Rattle.memory.specs.Layers.{lines_laid, lines_under, marks_of}
+use Rattle.memory.specs.Layers.{lines_laid, lines_under}
 use Rattle.memory.specs.Layouts.{from_zero}
-use Rattle.memory.specs.Marked.{lines_marked, mark_answer}
+use Rattle.memory.specs.Marked.{lines_marked, mark_answer_of_lines}
 use Rattle.bridge.specs.declared.decode.Space.{Space}
 use Rattle.bridge.specs.declared.decode.Space.TheVariants.{SparseMemory, DenseMemory, SparseIo, Configuration}
 use Rattle.bridge.specs.declared.registers.RegisterRefusal.TheVariants.{NotListed}
@@ -32,15 +32,16 @@ use Rattle.session.specs.Replies.{Labels, hex, log_text, ok_text, parenthesized,
 abbrev pub session_state : Session → State
 session_state s = state_of (lines_under (lines_laid (λ _. from_zero))) s.bridge
 
-abbrev pub session_mark : Session → ℕ → Answer
-session_mark s line = mark_answer (marks_of s.bridge.memory) (lines_laid (λ _. from_zero) s.bridge.memory.below) line
+-- what marking a line answers: in a session only marks spoil a line, so that the spoiled lines are the marked ones
+abbrev pub session_mark : State → ℕ → Answer
+session_mark s line = mark_answer_of_lines s.lines line
 
 -- what a processor's call comes to, and what a card's burst comes to
-abbrev pub requested : Session → Request → Outcome
-requested s request = performed (session_state s) (processor request)
+abbrev pub requested : State → Request → Outcome
+requested s request = performed s (processor request)
 
-abbrev pub served : Session → Burst → Outcome
-served s burst = performed (session_state s) (card burst)
+abbrev pub served : State → Burst → Outcome
+served s burst = performed s (card burst)
 
 -- the burst of a card-read: its buffer has a zero longword for each that is asked for, up to 64
 abbrev pub read_burst : ℕ → ℕ → Burst
@@ -51,10 +52,10 @@ abbrev pub write_burst : ℕ → List (ℕ × ℕ) → Burst
 write_burst pci pairs = card_write pci (length pairs) (map (λ p. p.0) pairs) (map (λ p. p.1) pairs)
 
 -- what a form comes to
-abbrev pub form_outcome : Session → Asked → Outcome
-form_outcome s (N.CpuStore, (address, value)) = cpu_store (session_state s) address value
-form_outcome s (N.CpuLoad, address) = outcome_of (cpu_load (session_state s) address) (session_state s)
-form_outcome s (N.Mark, line) = outcome_of (session_mark s line) (with_lines (lines_marked (session_mark s line) line) (session_state s))
+abbrev pub form_outcome : State → Asked → Outcome
+form_outcome s (N.CpuStore, (address, value)) = cpu_store s address value
+form_outcome s (N.CpuLoad, address) = outcome_of (cpu_load s address) s
+form_outcome s (N.Mark, line) = outcome_of (session_mark s line) (with_lines (lines_marked (session_mark s line) line) s)
 form_outcome s (N.RegRead, register) = requested s (register_read register)
 form_outcome s (N.RegWrite, (register, value)) = requested s (register_write register value)
 form_outcome s (N.Pci, address) = requested s (decode address)
@@ -95,36 +96,6 @@ outcome_text N.Log o = answer_text log_text [] o.answer
 outcome_text N.LogClear o = answer_text ok_text [] o.answer
 outcome_text N.CardRead o = read_text o
 outcome_text N.CardWrite o = write_text o
-
--- what a form is answered
-abbrev pub form_text : Session → Asked → List ℕ
-form_text s asked = outcome_text asked.0 (form_outcome s asked)
-
--- what a form answers
-abbrev pub form_answer : Session → Asked → Answer
-form_answer s (N.CpuStore, (address, value)) = (cpu_store (session_state s) address value).answer
-form_answer s (N.CpuLoad, address) = cpu_load (session_state s) address
-form_answer s (N.Mark, line) = session_mark s line
-form_answer s (N.RegRead, x) = (form_outcome s (N.RegRead, x)).answer
-form_answer s (N.RegWrite, x) = (form_outcome s (N.RegWrite, x)).answer
-form_answer s (N.Pci, x) = (form_outcome s (N.Pci, x)).answer
-form_answer s (N.Log, x) = (form_outcome s (N.Log, x)).answer
-form_answer s (N.LogClear, x) = (form_outcome s (N.LogClear, x)).answer
-form_answer s (N.CardRead, x) = (form_outcome s (N.CardRead, x)).answer
-form_answer s (N.CardWrite, x) = (form_outcome s (N.CardWrite, x)).answer
-
--- and the state that it leaves
-abbrev pub form_state : Session → Asked → State
-form_state s (N.CpuStore, (address, value)) = (cpu_store (session_state s) address value).state
-form_state s (N.CpuLoad, address) = session_state s
-form_state s (N.Mark, line) = with_lines (lines_marked (session_mark s line) line) (session_state s)
-form_state s (N.RegRead, x) = (form_outcome s (N.RegRead, x)).state
-form_state s (N.RegWrite, x) = (form_outcome s (N.RegWrite, x)).state
-form_state s (N.Pci, x) = (form_outcome s (N.Pci, x)).state
-form_state s (N.Log, x) = (form_outcome s (N.Log, x)).state
-form_state s (N.LogClear, x) = (form_outcome s (N.LogClear, x)).state
-form_state s (N.CardRead, x) = (form_outcome s (N.CardRead, x)).state
-form_state s (N.CardWrite, x) = (form_outcome s (N.CardWrite, x)).state
 
 -- what a form came to, as a reply
 abbrev pub reply_of : Result Reply FormRefusal → Reply
@@ -182,10 +153,10 @@ RefusedFor asked reply = Unit {0}
 -- what a form does: its reply is of its kind, has its answer and prints its text, and that state is left
 pub record Does (before : Session) (asked : Asked) (reply : Reply) (after : Session) : Type 0 where
   pub kind : is_kind asked.0 reply ≡ true
-  pub answer : reply_answer reply ≡ form_answer before asked
-  pub text : reply_text reply ≡ form_text before asked
+  pub answer : reply_answer reply ≡ (form_outcome (session_state before) asked).answer
+  pub text : reply_text reply ≡ outcome_text asked.0 (form_outcome (session_state before) asked)
   pub refused : RefusedFor asked reply
-  pub state : session_state after ≡ form_state before asked
+  pub state : session_state after ≡ (form_outcome (session_state before) asked).state
 
 -- a line is answered as the form that it spells, or with 18, and nothing changes then
 pub record Answered (before : Session) (line : List ℕ) (reply : Reply) (after : Session) : Type 0 where

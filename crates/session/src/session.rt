@@ -112,9 +112,9 @@ impl Session {
 
     // Asks the bridge what the processor asks. Each caller takes its own kind of answer, which is the kind that is promised.
     fn request(&mut self, request: Request) -> CallAnswer
-        ensures answer { answer_of result ≡ (requested self.old (request_of request)).answer }
+        ensures answer { answer_of result ≡ (requested (session_state self.old) (request_of request)).answer }
         ensures kind { AnswersRequest request result }
-        ensures after { session_state self.new ≡ (requested self.old (request_of request)).state }
+        ensures after { session_state self.new ≡ (requested (session_state self.old) (request_of request)).state }
     {
         let mut call = Call::Processor(request);
         self.bridge.perform(&mut call)
@@ -122,7 +122,7 @@ impl Session {
 
     // The line at an address.
     fn load_line(&mut self, address: u64) -> Result<[u8; 32], AccessRefusal>
-        ensures answer { answered (λ bytes. bytes) access_cause result ≡ (requested self.old (load address)).answer }
+        ensures answer { answered (λ bytes. bytes) access_cause result ≡ (requested (session_state self.old) (load address)).answer }
         ensures line { IfErr result (OfLine (address / 32)) }
         ensures after { session_state self.new ≡ session_state self.old }
     {
@@ -134,9 +134,9 @@ impl Session {
 
     // Stores a line at an address.
     fn store_line(&mut self, address: u64, bytes: [u8; 32]) -> Result<(), AccessRefusal>
-        ensures answer { answered no_values access_cause result ≡ (requested self.old (store address bytes)).answer }
+        ensures answer { answered no_values access_cause result ≡ (requested (session_state self.old) (store address bytes)).answer }
         ensures line { IfErr result (OfLine (address / 32)) }
-        ensures after { session_state self.new ≡ (requested self.old (store address bytes)).state }
+        ensures after { session_state self.new ≡ (requested (session_state self.old) (store address bytes)).state }
     {
         let CallAnswer::Store(result) = self.request(Request::Store { address, bytes }) else {
             unreachable!()
