@@ -1,5 +1,5 @@
 // The nine calls as values, and runs of them.
-ghost use Rattle.std.specs.Prelude.{◌≡◌, Some};
+ghost use Rattle.std.specs.Prelude.{◌≡◌, Some, IfSome};
 ghost use Rattle.bridge.specs.Calls.{card, performed, processor};
 ghost use Rattle.bridge.specs.Performed.{Answers, AnswersBurst, AnswersRequest, answer_of, burst_of, burst_with_buffer, call_of, request_of, with_buffer};
 ghost use Rattle.bridge.specs.Isolation.{after};
@@ -135,6 +135,7 @@ impl<M: Memory> Bridge<M> {
     // Performs the call of a step, and keeps the answer beside it.
     fn perform_step(&mut self, step: &mut Step)
         ensures answer { answer_kept step.new.answer ≡ Some (performed (state_of M.Memory.content self.old) (call_of step.old.call)).answer }
+        ensures kind { IfSome step.new.answer (Answers step.old.call) }
         ensures call { call_of step.new.call ≡ with_buffer (performed (state_of M.Memory.content self.old) (call_of step.old.call)).buffer (call_of step.old.call) }
         ensures after { state_of M.Memory.content self.new ≡ (performed (state_of M.Memory.content self.old) (call_of step.old.call)).state }
     {
