@@ -12,3 +12,4 @@ pub mod QuadwordStores
 pub mod LineAnswers
 pub mod InputCuts
 pub mod FormTexts
+pub mod Serving

@@ -5,5 +5,6 @@ pub mod Forms
 pub mod Replies
 pub mod Quadwords
 pub mod InputLines
+pub mod Serving
 pub mod Sessions
 pub mod FormLines

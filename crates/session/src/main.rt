@@ -7,28 +7,17 @@ mod lexer;
 mod numbers;
 mod quadwords;
 mod replies;
+mod serve;
 mod session;
 
-use input::{InputLine, LineCutter};
+use serve::serve;
 use session::Session;
 use std::io;
-use std::io::{BufReader, Read};
-
-fn answer(rt: &HostRuntime, session: &mut Session, line: &InputLine) -> io::Result<()> {
-    let reply = session.answer_input(rt.alloc(), line)?;
-    println!(rt; "{reply}")
-}
+use std::io::{BufReader, LineWriter};
 
 fn main(rt: HostRuntime) -> io::Result<()> {
     let mut session = Session::new(rt.alloc())?;
-    let mut cutter = LineCutter::new(rt.alloc());
-    for byte in BufReader::new(rt.alloc(), rt.stdin())?.bytes() {
-        if let Some(line) = cutter.feed(rt.alloc(), byte?)? {
-            answer(&rt, &mut session, &line)?;
-        }
-    }
-    if let Some(line) = cutter.finish() {
-        answer(&rt, &mut session, &line)?;
-    }
-    Ok(())
+    let input = BufReader::new(rt.alloc(), rt.stdin())?;
+    let mut output = LineWriter::new(rt.alloc(), rt.stdout())?;
+    serve(rt.alloc(), &mut session, input, &mut output)
 }
