@@ -7,7 +7,7 @@ use Rattle.std.specs.List.{AllByRecursion}
 use Rattle.memory.specs.Content.{Bounded, Content, Lawful, Lines, absent, all_ones, good, overwritten, spoiled, written}
 use Rattle.memory.specs.LinesAt.{merged_full}
 use Rattle.bridge.specs.Calls.{Call, Request, card, control_after, is_burst, lines_after, performed, processor, store}
-use Rattle.bridge.specs.Isolation.{AllAlike, Alike, CarriesALine, Hidden, Isolated, IsolatedRuns, Isolation, Protected, ProtectedThroughout, SameBurst, hidden_stores, more_calls, no_calls, replaced, same_call, stored_by, stored_by_all}
+use Rattle.bridge.specs.Isolation.{AllAlike, Alike, CarriesALine, Hidden, Isolated, IsolatedRuns, Protected, ProtectedThroughout, SameBurst, hidden_stores, more_calls, no_calls, replaced, same_call, stored_by, stored_by_all}
 use Rattle.bridge.specs.LookAside.{page_in}
 use Rattle.bridge.specs.Pages.{Closed, Held, NamedByEntry, NamedByRow, PlainlyReached, line_page}
 use Rattle.bridge.specs.Processor.{no_line}
@@ -131,7 +131,7 @@ none_open : (m : Lines) (page : ℕ) → Closed (new_state m) page
 none_open m page o =
     ⊎_elim (λ (p : PlainlyReached _ _). none_held m _ _ p.held) (λ r. ⊎_elim (λ (n : NamedByEntry _ _ _). none_held m _ _ n.in_use.held) (λ (c : NamedByRow _ _). none_valid 8 c.index page c.named) r) o
 
-pub isolation : Isolation
+pub isolation : (m w : Lines) → Lawful m → Lawful w → IsolatedRuns (new_state m) (new_state w)
 isolation m w lm lw hidden cs ds outside alike zs zt premise =
     isolated alike (new_state m) (new_state w)
     (record { no_table_hidden = λ address u. absurd (none_held m _ _ u.held); hidden_closed = λ page h. none_open m page; tables_closed = λ address u. none_open m _ })

@@ -1,10 +1,10 @@
 -- What the cards cannot learn, alter or open.
 use Rattle.std.specs.Prelude.{◌≡◌, ℕ, suc, ◌*◌, ◌<◌, ◌≤◌, Bool, true, false, cond, List, [], ◌∷◌, length, take, ◌==◌, slice_index_or}
-use Rattle.memory.specs.Content.{Content, Lawful, Lines, absent, good, spoiled}
+use Rattle.memory.specs.Content.{Content, Lines, absent, good, spoiled}
 use Rattle.std.specs.List.{AllByRecursion}
 use Rattle.bridge.specs.Calls.{Call, Outcome, card, decode, is_burst, load, log_clear, log_read, performed, processor, register_read, register_write, store}
 use Rattle.bridge.specs.Pages.{Closed, InUse, line_page, page_of}
-use Rattle.bridge.specs.State.{State, new_state}
+use Rattle.bridge.specs.State.{State}
 
 -- any set of pages, given by its test
 abbrev pub Hidden : Type 0
@@ -117,7 +117,3 @@ IsolatedRuns s t =
     → AllByRecursion CarriesALine ds
     → ProtectedThroughout hidden s cs
     → Isolated hidden s t cs ds
-
--- of new bridges over every two memories that keep the laws
-abbrev pub Isolation : Type 0
-Isolation = (m w : Lines) → Lawful m → Lawful w → IsolatedRuns (new_state m) (new_state w)

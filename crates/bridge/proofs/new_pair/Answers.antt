@@ -10,4 +10,4 @@ returns g c =
     let lawful_right : Lawful (g.R.Memory.content r) = record { beyond = g.met.R.Memory.beyond r; whole = g.met.R.Memory.whole r } in
     let e = c.new.ensures.starts in
     let f = c.new-2.ensures.starts in
-    record { left = e; right = f; isolated = isolated_new e f lawful_left lawful_right }
+    record { memories = (c.new.ensures.memory, c.new-2.ensures.memory); left = e; right = f; isolated = isolated_new e f lawful_left lawful_right }
