@@ -189,7 +189,10 @@ mod tests {
         let mut place = [7; 32];
         assert_eq!(rt; m.read(0xff, &mut place), Err(MemoryFault::Absent(0xff)));
         assert_eq!(rt; m.read(0x102, &mut place), Err(MemoryFault::Absent(0x102)));
-        assert_eq!(rt; m.write(0x102, &[4; 32], 1), Err(MemoryFault::Absent(0x102)));
+        assert_eq!(rt;
+            m.write(0x102, &[4; 32], 1),
+            Err(MemoryFault::Absent(0x102))
+        );
         assert_eq!(rt; place[0], 7);
         Ok(())
     }

@@ -10,7 +10,12 @@ use std::io;
 use std::io::{Read, Write};
 
 // Answers a line of the input by a line of the output.
-fn serve_line<W: Write>(heap: Global, session: &mut Session, line: InputLine, output: &mut W) -> io::Result<()>
+fn serve_line<W: Write>(
+    heap: Global,
+    session: &mut Session,
+    line: InputLine,
+    output: &mut W,
+) -> io::Result<()>
     ensures { OnOk result (LineServed session.old (line_given line) (W.contents output.old) (W.contents output.new) session.new) }
 {
     let reply = session.answer_input(heap, &line)?;
@@ -18,7 +23,12 @@ fn serve_line<W: Write>(heap: Global, session: &mut Session, line: InputLine, ou
 }
 
 // Answers each line of an input by a line of the output. Where the input's bytes are known, it is read to its end.
-pub fn serve<R: Read + Drop, W: Write>(heap: Global, session: &mut Session, input: R, output: &mut W) -> io::Result<()>
+pub fn serve<R: Read + Drop, W: Write>(
+    heap: Global,
+    session: &mut Session,
+    input: R,
+    output: &mut W,
+) -> io::Result<()>
     ensures { OnOk result (InputServed session.old (R.remaining input) (W.contents output.old) (W.contents output.new) session.new) }
 {
     let mut cutter = LineCutter::new(heap);
