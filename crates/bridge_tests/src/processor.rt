@@ -1,6 +1,7 @@
 // What the processor's loads, stores and register writes change, and which addresses they take.
 use crate::setup::{NONE, PLAIN, fill, flat, holds, marked, spoiled};
 use bridge::processor::AccessRefusal;
+use bridge::registers::RegisterRefusal;
 use memory::MemoryFault;
 use std::test::Fail;
 
@@ -49,4 +50,15 @@ fn a_register_write_changes_no_memory(rt: HostRuntime) -> Result<(), Fail> {
     }
     holds(&b, 31, 0)?;
     holds(&b, 32, 5)
+}
+
+#[test]
+fn a_refused_register_call_names_its_cause(rt: HostRuntime) -> Result<(), Fail> {
+    let mut b = flat(rt.alloc(), 64, NONE)?;
+    assert_eq!(rt; b.register_read(15), Err(RegisterRefusal::NotListed));
+    assert_eq!(rt; b.register_write(15, 1), Err(RegisterRefusal::NotListed));
+    assert_eq!(rt; b.register_write(16, 1), Err(RegisterRefusal::ReadOnly));
+    assert_eq!(rt; b.register_write(31, 1), Err(RegisterRefusal::ReadOnly));
+    assert_eq!(rt; b.register_read(31), Ok(0));
+    Ok(())
 }
