@@ -6,7 +6,8 @@ ghost use Rattle.bridge.specs.Bursts.{in_line, wrong_count};
 use crate::faults::BurstFault;
 use memory::refusals::Refusal;
 
-// Why a burst is refused: it fails one of three checks, or something ended it.
+// Why a burst is refused: it fails one of three checks (1 for counts, enables and the end, 2 for the low bits of the address,
+// 3 for a first longword that no window holds), or something ended it.
 #[derive(Clone, Copy, Debug, PartialEq, Eq)]
 pub enum BurstRefusal<E> {
     Bounds,
@@ -28,7 +29,7 @@ pub enum ReadEnd {
     },
 }
 
-// Longwords taken, lines stored, lines dismissed.
+// What a write did: longwords taken, which are those of all lines stored or dismissed, lines stored, lines dismissed.
 #[derive(Clone, Copy, Debug, Default, PartialEq, Eq)]
 pub struct WriteCounts {
     pub taken: usize,
@@ -36,14 +37,16 @@ pub struct WriteCounts {
     pub dismissed: usize,
 }
 
-// What ended a write: no window holds the next longword.
+// What ended a write, with what it did before: no window holds the next longword.
 #[derive(Clone, Copy, Debug, PartialEq, Eq)]
 pub struct WriteEnd {
     pub counts: WriteCounts,
 }
 
+// Why a read is refused.
 pub type ReadRefusal = BurstRefusal<ReadEnd>;
 
+// Why a write is refused. A fault dismisses its line and is no refusal.
 pub type WriteRefusal = BurstRefusal<WriteEnd>;
 
 impl Refusal for ReadEnd {

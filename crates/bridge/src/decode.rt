@@ -13,7 +13,7 @@ use memory::Memory;
 use memory::refusals::Refusal;
 use std::fmt;
 
-// The spaces that the processor reaches on the PCI bus.
+// The spaces that the processor reaches on the PCI bus, each printed as one word.
 #[derive(Clone, Copy, Debug, PartialEq, Eq)]
 pub enum Space {
     SparseMemory,

@@ -52,6 +52,7 @@ pub struct FaultLog {
 }
 
 impl FaultLog {
+    // The log of a new bridge, and of one whose log was cleared.
     pub(crate) fn empty() -> FaultLog
         ensures { result ≡ empty_log }
     {

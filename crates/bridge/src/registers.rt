@@ -16,6 +16,8 @@ pub struct Window {
     translated: u32,
 }
 
+// What the processor writes and reads back: two windows, HAXR1 and HAXR2. HAXR0 keeps nothing, and the registers of the
+// look-aside rows are read from the rows.
 #[derive(Clone, Copy, Default)]
 pub struct Registers {
     first: Window,
@@ -154,12 +156,14 @@ impl Registers {
         }
     }
 
+    // PCI address bits 31:27 of sparse memory, at their place.
     pub(crate) fn haxr1(&self) -> u32
         ensures { result ≡ self.now.haxr1 }
     {
         self.haxr1
     }
 
+    // Bits 1:0 name the type of a configuration access.
     pub(crate) fn haxr2(&self) -> u32
         ensures { result ≡ self.now.haxr2 }
     {

@@ -1,5 +1,5 @@
-// Where PCI addresses lead, over banks that leave most addresses absent.
-use crate::setup::{NONE, PLAIN, Trial, Window, absent, banked, counts, play};
+// Where PCI addresses lead, over memories that leave most addresses absent.
+use crate::setup::{NONE, PLAIN, Trial, Window, absent, banked, counts, play, shifted};
 use bridge::bursts::BurstRefusal;
 use std::test::Fail;
 
@@ -103,6 +103,23 @@ fn a_burst_past_a_bank_does_not_reach_the_next(rt: HostRuntime) -> Result<(), Fa
             Trial::WriteAnswers(0x4000_1ff8, &[5; 4], &[15; 4], Ok(counts(4, 1, 1))),
             Trial::Holds(0x1ffc, 5),
             Trial::Holds(0x4000, 0),
+        ],
+    )
+}
+
+// Lines 100h and 101h are there.
+#[test]
+fn a_memory_may_begin_at_a_later_line(rt: HostRuntime) -> Result<(), Fail> {
+    let mut b = shifted(rt.alloc(), 64, 0x100, PLAIN)?;
+    play(
+        &mut b,
+        &[
+            Trial::Fill(0x2000, 1),
+            Trial::Reads(0x4000_201c, &[0x0101_0101, 0]),
+            Trial::ReadAnswers(0x4000_1ffc, 2, absent(0, 0x4000_1ffc, 0xff), &[]),
+            Trial::ReadAnswers(0x4000_203c, 2, absent(1, 0x4000_2040, 0x102), &[0]),
+            Trial::WriteAnswers(0x4000_1ffc, &[5; 2], &[15; 2], Ok(counts(2, 1, 1))),
+            Trial::Holds(0x2000, 5),
         ],
     )
 }

@@ -8,6 +8,8 @@ mod checks;
 #[cfg(test)]
 mod faults;
 #[cfg(test)]
+mod processor;
+#[cfg(test)]
 mod reads;
 #[cfg(test)]
 mod rows;

@@ -10,6 +10,7 @@ use memory::banks::Bank;
 use memory::flat::Flat;
 use memory::marks::Marks;
 use memory::{Memory, MemoryFault};
+use shifted_memory::Shifted;
 use std::alloc::Global;
 use std::fmt::Display;
 use std::test::Fail;
@@ -81,6 +82,16 @@ pub(crate) fn marked(heap: Global, n: usize, window: Window) -> Result<Bridge<Ma
     bridge_over(Marks::new(heap, Flat::zeros(heap, n)?)?, window, NONE)
 }
 
+// A bridge with one window over a flat memory of n bytes whose lines begin at line `first`.
+pub(crate) fn shifted(
+    heap: Global,
+    n: usize,
+    first: u64,
+    window: Window,
+) -> Result<Bridge<Shifted<Flat>>, Fail> {
+    bridge_over(Shifted::new(Flat::zeros(heap, n)?, first), window, NONE)
+}
+
 // A bridge over two banks of a page each.
 pub(crate) fn banked(
     heap: Global,
@@ -115,14 +126,17 @@ fn log_of<M: Memory>(bridge: &Bridge<M>) -> Option<Logged> {
     })
 }
 
+// The log is filled, and says this.
 pub(crate) fn logs<M: Memory>(b: &Bridge<M>, expected: Logged) -> Result<(), Fail> {
     check(log_of(b) == Some(expected), "the log")
 }
 
+// The log is empty.
 pub(crate) fn no_fault<M: Memory>(b: &Bridge<M>) -> Result<(), Fail> {
     check(log_of(b).is_none(), "the log is not empty")
 }
 
+// A register reads this value.
 pub(crate) fn register<M: Memory>(b: &Bridge<M>, n: u64, value: u32) -> Result<(), Fail> {
     let read = b.register_read(n)?;
     check(read == value, format_args!("register {n}"))
@@ -199,6 +213,7 @@ pub(crate) fn write_answers<M: Memory>(
     check(got == answer, format_args!("write at {pci:x}"))
 }
 
+// What a write answers: longwords taken, lines stored, lines dismissed.
 pub(crate) fn counts(taken: usize, stored: usize, dismissed: usize) -> WriteCounts {
     WriteCounts {
         taken,
@@ -216,6 +231,7 @@ pub(crate) fn holds<M: Memory>(b: &Bridge<M>, address: u64, byte: u8) -> Result<
     )
 }
 
+// A load finds the line spoiled.
 pub(crate) fn spoiled<M: Memory>(b: &Bridge<M>, line: u64) -> Result<(), Fail> {
     if line >= 0xc00_0000 {
         return Err(Fail::new("no such line"));

@@ -42,12 +42,14 @@ impl BankList {
         ensures { BankListsJudged }
     {}
 
+    // The banks that were given, in their order.
     pub(crate) fn as_slice(&self) -> &[Bank]
         ensures { result.now ≡ banks_of self.now }
     {
         &self.banks[..self.count]
     }
 
+    // The bytes that the list was made for.
     pub(crate) fn room(&self) -> usize
         ensures { result ≡ self.now.room }
     {

@@ -30,6 +30,7 @@ impl Layout for BankList {
     }
 }
 
+// Bytes with the banks of a list laid one behind the other: exactly the addresses of the banks are present.
 pub type Banked = Laid<BankList>;
 
 impl Banked {

@@ -23,6 +23,7 @@ impl Layout for FromZero {
     }
 }
 
+// Bytes from address 0 on: line k is there if all of its bytes are, and it is below C000000h.
 pub type Flat = Laid<FromZero>;
 
 impl Flat {

@@ -16,6 +16,7 @@ pub(crate) const LINES: u64 = 0xC000000;
 pub trait Layout {
     ghost place: { Self → Places };
 
+    // Where a line begins, if it lies anywhere.
     fn place_of(&self, line: u64) -> Option<usize>
         ensures { result ≡ place self.now line };
 
@@ -32,6 +33,7 @@ pub struct Laid<L: Layout> {
 }
 
 impl<L: Layout> Laid<L> {
+    // Bytes under a layout, as they are.
     pub(crate) fn new(layout: L, bytes: Vec<u8>) -> Laid<L>
         ensures { (result.layout ≡ layout) × (result.bytes ≡ bytes) }
     {

@@ -6,6 +6,7 @@ ghost use Rattle.memory.specs.Rows.{Finds, FoundOnce, held_answers};
 pub trait Row {
     ghost answers: { Self → ℕ → Bool };
 
+    // Whether the row answers for a number.
     fn answers(&self, n: u64) -> bool
         ensures { result ≡ answers self.now n };
 }

@@ -9,6 +9,7 @@ mod tests {
     use memory::flat::Flat;
     use memory::marks::{MarkRefusal, Marks};
     use memory::{Memory, MemoryFault};
+    use shifted_memory::Shifted;
     use std::test::Fail;
 
     const ONES: u32 = u32::MAX;
@@ -169,5 +170,38 @@ mod tests {
         ];
         assert_eq!(rt; refused(&eight, 0x4001_2000), None);
         assert_eq!(rt; refused(&eight, 0x4001_1fff), Some(BankListRefusal::Total));
+    }
+
+    // Line 100h is line 0 of the memory below, which has two lines.
+    #[test]
+    fn a_shifted_memory_begins_at_its_first_line(rt: HostRuntime) -> Result<(), Fail> {
+        let below = Marks::new(rt.alloc(), Flat::zeros(rt.alloc(), 64)?)?;
+        let mut m = Shifted::new(below, 0x100);
+        assert!(rt; !m.present(0));
+        assert!(rt; !m.present(0xff));
+        assert!(rt; m.present(0x100));
+        assert!(rt; m.present(0x101));
+        assert!(rt; !m.present(0x102));
+        assert!(rt; !m.present(u64::MAX));
+        assert_eq!(rt; m.write(0x101, &[4; 32], ONES), Ok(()));
+        assert_eq!(rt; byte(&m, 0x101, 31)?, 4);
+        assert_eq!(rt; byte(&m, 0x100, 31)?, 0);
+        let mut place = [7; 32];
+        assert_eq!(rt; m.read(0xff, &mut place), Err(MemoryFault::Absent(0xff)));
+        assert_eq!(rt; m.read(0x102, &mut place), Err(MemoryFault::Absent(0x102)));
+        assert_eq!(rt;
+            m.write(0x102, &[4; 32], 1),
+            Err(MemoryFault::Absent(0x102))
+        );
+        assert_eq!(rt; place[0], 7);
+        Ok(())
+    }
+
+    #[test]
+    fn a_shifted_memory_ends_where_every_memory_ends(rt: HostRuntime) -> Result<(), Fail> {
+        let m = Shifted::new(Flat::zeros(rt.alloc(), 64)?, 0xbff_ffff);
+        assert!(rt; m.present(0xbff_ffff));
+        assert!(rt; !m.present(0xc00_0000));
+        Ok(())
     }
 }

@@ -87,6 +87,7 @@ impl From<LineError> for FormError {
     }
 }
 
+// A bridge over zero bytes under marks, which changes by the forms that it is asked.
 #[derive(Drop)]
 pub struct Session {
     bridge: Bridge<Marks<Flat>>,
