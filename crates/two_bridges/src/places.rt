@@ -1,0 +1,163 @@
+// Which pages the processor hides, where the tables lie, and where windows and entries lead.
+//
+// The premise of the isolation theorem holds of every list of calls that `calls.rt` makes, whatever its random numbers are:
+//
+// - A window is disabled before its other registers change, and is then one of `WINDOWS`. So the tables in use lie in
+//   `TABLE_PAGE` and in page 800h, which is absent, and an enabled plain window leads to pages 80h to FFh, 100h to 1FFh and
+//   80000h to 8007Fh. No hidden page and no page of a table is among them.
+// - The lines of `TABLE_PAGE` hold zeros at first, and only `Request::Store` of a line of entries goes there; of these a valid
+//   one names one of `ENTRY_PAGES`. An entry that is not valid may hold the number of a hidden page: it names none. So no
+//   valid entry ever names a hidden page or a page of a table, and neither does a row, which is filled by a valid entry.
+// - Cards therefore write to pages 80h to 1FFh and to `ENTRY_PAGES` alone, and change no table.
+//
+// The two memories are filled alike outside hidden pages (`memories.rt`), and the two lists differ only in the bytes that are
+// stored into hidden pages.
+use memory::banks::Bank;
+
+// Lines of a page, and its bytes.
+pub const PAGE_LINES: u64 = 256;
+
+pub const PAGE_BYTES: u64 = 8192;
+
+// Both memories have 136 pages: the first megabyte and eight pages more.
+pub const PAGES: u64 = 136;
+
+// The same addresses as banks, so that the bytes lie in another order than in the flat memory.
+pub const BANKS: [Bank; 3] = [
+    Bank {
+        base: 0x10_0000,
+        size: 0x1_0000,
+    },
+    Bank {
+        base: 0x8_0000,
+        size: 0x8_0000,
+    },
+    Bank {
+        base: 0,
+        size: 0x8_0000,
+    },
+];
+
+// The pages that the processor keeps to itself.
+pub const HIDDEN: [u64; 4] = [3, 5, 0x40, 0x7f];
+
+pub const TABLE_PAGE: u64 = 2;
+
+// The lines of the table that the driver stores: those of the first twelve entries, and of eight that the wide window reads.
+pub const TABLE_LINES: [u64; 5] = [0, 1, 2, 32, 33];
+
+// The line of the table with the entries of the last four pages of a megabyte, which the driver never stores.
+pub const LAST_TABLE_LINE: u64 = 31;
+
+// The pages that a valid entry may name: some next to hidden ones, some that a plain window leads to, and two that are absent.
+pub const ENTRY_PAGES: [u64; 8] = [4, 6, 0x3f, 0x41, 0x80, 0x87, 0x88, 0xf_ffff];
+
+// Those that are there.
+pub const OPEN_PAGES: [u64; 6] = [4, 6, 0x3f, 0x41, 0x80, 0x87];
+
+// A window as its three registers are written.
+#[derive(Clone, Copy)]
+pub struct Window {
+    pub translated: u32,
+    pub base: u32,
+    pub mask: u32,
+}
+
+pub const WINDOWS: [Window; 8] = [
+    PLAIN,
+    MAPPED,
+    MAPPED_SECOND,
+    // PCI 4000_0000h to 401F_FFFFh, mapped by a table of 256 entries.
+    Window {
+        translated: 0x2000,
+        base: 0x400c_0000,
+        mask: 0x10_0000,
+    },
+    // PCI 4010_0000h and up, mapped by a table at address 100_0000h, which is absent.
+    Window {
+        translated: 0x80_0000,
+        base: 0x401c_0000,
+        mask: 0,
+    },
+    // PCI 4000_0000h to 401F_FFFFh, plain, to address 20_0000h and up, which is absent.
+    Window {
+        translated: 0x10_0000,
+        base: 0x4008_0000,
+        mask: 0x10_0000,
+    },
+    // PCI 4010_0000h and up, plain, to address 1_0000_0000h and up, which is absent.
+    Window {
+        translated: 0x8000_0000,
+        base: 0x4018_0000,
+        mask: 0,
+    },
+    // The last megabyte of PCI addresses, mapped.
+    Window {
+        translated: 0x2000,
+        base: 0xfffc_0000,
+        mask: 0,
+    },
+];
+
+// PCI 4010_0000h to 401F_FFFFh, plain, to address 10_0000h and up, of which eight pages are there.
+const PLAIN: Window = Window {
+    translated: 0x8_0000,
+    base: 0x4018_0000,
+    mask: 0,
+};
+
+// PCI 4000_0000h to 400F_FFFFh, mapped by a table of 128 entries.
+const MAPPED: Window = Window {
+    translated: 0x2000,
+    base: 0x400c_0000,
+    mask: 0,
+};
+
+// PCI 4010_0000h to 401F_FFFFh, mapped by the same table.
+const MAPPED_SECOND: Window = Window {
+    translated: 0x2000,
+    base: 0x401c_0000,
+    mask: 0,
+};
+
+// The megabytes that cards ask for: mostly two that windows hold, else the one behind them, which none holds, and the last one.
+pub const CARD_MEGABYTES: [u32; 8] = [
+    0x4000_0000,
+    0x4000_0000,
+    0x4000_0000,
+    0x4010_0000,
+    0x4010_0000,
+    0x4010_0000,
+    0x4020_0000,
+    0xfff0_0000,
+];
+
+// The address of a line of a page.
+pub fn line_address(page: u64, line: u64) -> u64 {
+    page << 13 | line << 5
+}
+
+pub fn is_hidden_line(line: u64) -> bool {
+    HIDDEN.contains(&(line / PAGE_LINES))
+}
+
+pub fn is_hidden(address: u64) -> bool {
+    is_hidden_line(address / 32)
+}
+
+// The two bridges and their memories.
+#[derive(Clone, Copy, Debug, PartialEq, Eq)]
+pub enum Side {
+    Left,
+    Right,
+}
+
+impl Side {
+    // What a hidden line holds on this side, made of the same bytes for both: no byte is the same in the two.
+    pub fn hidden_bytes(self, bytes: [u8; 32]) -> [u8; 32] {
+        match self {
+            Side::Left => bytes,
+            Side::Right => bytes.map(|byte| !byte),
+        }
+    }
+}
