@@ -1,5 +1,4 @@
 // What was done, counted from the calls and their answers.
-use crate::pair::loads_hidden;
 use crate::places::is_hidden;
 use bridge::calls::{Burst, Call, CallAnswer, Request, Step};
 use memory::refusals::Refusal;
@@ -107,19 +106,18 @@ impl Account<'_> {
         self.left.iter().filter(|step| stored_hidden(step)).count()
     }
 
-    // Loads of hidden pages whose answers differ.
-    fn loads_that_differ(&self) -> usize {
+    fn differing_answers(&self) -> usize {
         self.left
             .iter()
             .zip(self.right.iter())
-            .filter(|(left, right)| loads_hidden(&left.call) && left.answer != right.answer)
+            .filter(|(left, right)| left.answer != right.answer)
             .count()
     }
 }
 
 impl fmt::Display for Account<'_> {
     fn fmt<W: fmt::Write>(&self, f: &mut fmt::Formatter<W>) -> fmt::Result {
-        writeln!(f, "calls: {}", self.left.len())?;
+        writeln!(f, "calls on each bridge: {}", self.left.len())?;
         for kind in KINDS {
             writeln!(f, "  {kind}: {}", self.calls(kind))?;
         }
@@ -134,8 +132,8 @@ impl fmt::Display for Account<'_> {
         )?;
         writeln!(
             f,
-            "loads of hidden pages with different answers: {}",
-            self.loads_that_differ()
+            "answers that differ, each to a load of a hidden page: {}",
+            self.differing_answers()
         )
     }
 }

@@ -10,31 +10,24 @@ mod places;
 mod random;
 mod runs;
 
-use anyhow::{Result, bail};
+use anyhow::Result;
 use memories::COMMON_MARKS;
 use runs::{run_same, run_with_slip};
 
 fn main(rt: HostRuntime) -> Result<()> {
     let heap = rt.alloc();
     println!(rt; "A flat memory, and banks under marks.")?;
-    run_same(
-        &rt,
-        memories::flat(heap)?,
-        memories::banks_under_marks(heap, &[])?,
-    )?;
+    let flat = memories::flat(heap)?;
+    let banks = memories::banks_under_marks(heap, &[])?;
+    run_same(&rt, flat, banks)?;
     println!(rt;
-        "Both under marks, with lines outside the hidden pages that are spoiled in both."
+        "The same calls, both memories under marks, lines outside hidden pages spoiled in both."
     )?;
-    run_same(
-        &rt,
-        memories::flat_under_marks(heap, &COMMON_MARKS)?,
-        memories::banks_under_marks(heap, &COMMON_MARKS)?,
-    )?;
-    println!(rt; "The same calls, but an entry of the table names a hidden page.")?;
-    let Some(difference) = run_with_slip(heap)? else {
-        bail!("nothing differs where the premise is broken");
-    };
-    println!(rt; "the first difference: {difference}")?;
-    println!(rt; "all was the same where the premise holds")?;
+    let flat = memories::flat_under_marks(heap, &COMMON_MARKS)?;
+    let banks = memories::banks_under_marks(heap, &COMMON_MARKS)?;
+    run_same(&rt, flat, banks)?;
+    println!(rt; "The same calls, an entry of the table naming a hidden page.")?;
+    run_with_slip(&rt)?;
+    println!(rt; "All was the same where the premise holds.")?;
     Ok(())
 }

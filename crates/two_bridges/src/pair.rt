@@ -18,8 +18,9 @@ pub struct Pair<L: Memory, R: Memory> {
 // What is not the same on the two sides.
 #[derive(Clone, Copy, Debug, PartialEq, Eq)]
 pub enum Part {
-    Answer,
-    Buffer,
+    CardAnswer,
+    CardBuffer,
+    ProcessorAnswer,
     Register(u64),
     Log,
 }
@@ -31,20 +32,34 @@ pub struct Difference {
     pub part: Part,
 }
 
-impl fmt::Display for Difference {
+impl Difference {
+    // Whether it is one that a card sees.
+    pub fn is_told_to_cards(&self) -> bool {
+        matches!(self.part, Part::CardAnswer | Part::CardBuffer)
+    }
+}
+
+impl fmt::Display for Part {
     fn fmt<W: fmt::Write>(&self, f: &mut fmt::Formatter<W>) -> fmt::Result {
-        let call = self.call;
-        match self.part {
-            Part::Answer => write!(f, "the answers to call {call}"),
-            Part::Buffer => write!(f, "the buffers after call {call}"),
-            Part::Register(n) => write!(f, "register {n} after call {call}"),
-            Part::Log => write!(f, "the logs after call {call}"),
+        match self {
+            Part::CardAnswer => write!(f, "the answers to the card"),
+            Part::CardBuffer => write!(f, "the buffers of the card"),
+            Part::ProcessorAnswer => write!(f, "the answers to the processor"),
+            Part::Register(n) => write!(f, "the registers {n}"),
+            Part::Log => write!(f, "the logs"),
         }
     }
 }
 
+impl fmt::Display for Difference {
+    fn fmt<W: fmt::Write>(&self, f: &mut fmt::Formatter<W>) -> fmt::Result {
+        let Difference { call, part } = self;
+        write!(f, "{part} differ at call {call}")
+    }
+}
+
 // Whether a call is a load of a hidden page, whose answer may differ.
-pub fn loads_hidden(call: &Call) -> bool {
+fn loads_hidden(call: &Call) -> bool {
     match call {
         Call::Processor(Request::Load { address }) => is_hidden(*address),
         _ => false,
@@ -61,10 +76,13 @@ fn buffer_of(call: &Call) -> &[u32] {
 
 fn compare_steps(left: &Step, right: &Step) -> Result<(), Part> {
     if left.answer != right.answer && !loads_hidden(&left.call) {
-        return Err(Part::Answer);
+        return Err(match left.call {
+            Call::Processor(_) => Part::ProcessorAnswer,
+            Call::Card(_) => Part::CardAnswer,
+        });
     }
     if buffer_of(&left.call) != buffer_of(&right.call) {
-        return Err(Part::Buffer);
+        return Err(Part::CardBuffer);
     }
     Ok(())
 }

@@ -43,11 +43,12 @@ pub const HIDDEN: [u64; 4] = [3, 5, 0x40, 0x7f];
 
 pub const TABLE_PAGE: u64 = 2;
 
-// The lines of the table that the driver stores: those of the first twelve entries, and of eight that the wide window reads.
-pub const TABLE_LINES: [u64; 5] = [0, 1, 2, 32, 33];
+// The lines of the table that the driver stores: those of the first twelve entries, of the last four of 128, and of eight that
+// only a window of two megabytes reads.
+pub const TABLE_LINES: [u64; 6] = [0, 1, 2, 31, 32, 33];
 
-// The line of the table with the entries of the last four pages of a megabyte, which the driver never stores.
-pub const LAST_TABLE_LINE: u64 = 31;
+// A line of the table that cards use and the driver never stores.
+pub const SPARE_TABLE_LINE: u64 = 3;
 
 // The pages that a valid entry may name: some next to hidden ones, some that a plain window leads to, and two that are absent.
 pub const ENTRY_PAGES: [u64; 8] = [4, 6, 0x3f, 0x41, 0x80, 0x87, 0x88, 0xf_ffff];
@@ -63,20 +64,47 @@ pub struct Window {
     pub mask: u32,
 }
 
-pub const WINDOWS: [Window; 8] = [
-    PLAIN,
-    MAPPED,
-    MAPPED_SECOND,
-    // PCI 4000_0000h to 401F_FFFFh, mapped by a table of 256 entries.
+pub const WINDOWS: [Window; 9] = [
+    // PCI 4000_0000h to 400F_FFFFh, mapped by 128 entries of the table.
+    Window {
+        translated: 0x2000,
+        base: 0x400c_0000,
+        mask: 0,
+    },
+    // PCI 4010_0000h to 401F_FFFFh, mapped by the same entries.
+    Window {
+        translated: 0x2000,
+        base: 0x401c_0000,
+        mask: 0,
+    },
+    // The last megabyte of PCI addresses, mapped by the same entries.
+    Window {
+        translated: 0x2000,
+        base: 0xfffc_0000,
+        mask: 0,
+    },
+    // PCI 4000_0000h to 401F_FFFFh, mapped by 256 entries of the table.
     Window {
         translated: 0x2000,
         base: 0x400c_0000,
         mask: 0x10_0000,
     },
-    // PCI 4010_0000h and up, mapped by a table at address 100_0000h, which is absent.
+    // PCI 4010_0000h to 401F_FFFFh, mapped by a table at address 100_0000h, which is absent.
     Window {
         translated: 0x80_0000,
         base: 0x401c_0000,
+        mask: 0,
+    },
+    // PCI 4000_0000h to 400F_FFFFh, plain, to address 10_0000h and up, of which eight pages are there.
+    Window {
+        translated: 0x8_0000,
+        base: 0x4008_0000,
+        mask: 0,
+    },
+    // PCI 4010_0000h to 401F_FFFFh, plain, to the same addresses.
+    Window {
+        translated: 0x8_0000,
+        base: 0x4018_0000,
         mask: 0,
     },
     // PCI 4000_0000h to 401F_FFFFh, plain, to address 20_0000h and up, which is absent.
@@ -85,51 +113,12 @@ pub const WINDOWS: [Window; 8] = [
         base: 0x4008_0000,
         mask: 0x10_0000,
     },
-    // PCI 4010_0000h and up, plain, to address 1_0000_0000h and up, which is absent.
+    // PCI 4010_0000h to 401F_FFFFh, plain, to address 1_0000_0000h and up, which is absent.
     Window {
         translated: 0x8000_0000,
         base: 0x4018_0000,
         mask: 0,
     },
-    // The last megabyte of PCI addresses, mapped.
-    Window {
-        translated: 0x2000,
-        base: 0xfffc_0000,
-        mask: 0,
-    },
-];
-
-// PCI 4010_0000h to 401F_FFFFh, plain, to address 10_0000h and up, of which eight pages are there.
-const PLAIN: Window = Window {
-    translated: 0x8_0000,
-    base: 0x4018_0000,
-    mask: 0,
-};
-
-// PCI 4000_0000h to 400F_FFFFh, mapped by a table of 128 entries.
-const MAPPED: Window = Window {
-    translated: 0x2000,
-    base: 0x400c_0000,
-    mask: 0,
-};
-
-// PCI 4010_0000h to 401F_FFFFh, mapped by the same table.
-const MAPPED_SECOND: Window = Window {
-    translated: 0x2000,
-    base: 0x401c_0000,
-    mask: 0,
-};
-
-// The megabytes that cards ask for: mostly two that windows hold, else the one behind them, which none holds, and the last one.
-pub const CARD_MEGABYTES: [u32; 8] = [
-    0x4000_0000,
-    0x4000_0000,
-    0x4000_0000,
-    0x4010_0000,
-    0x4010_0000,
-    0x4010_0000,
-    0x4020_0000,
-    0xfff0_0000,
 ];
 
 // The address of a line of a page.

@@ -3,8 +3,8 @@ use crate::account::Account;
 use crate::calls::call_list;
 use crate::hidden::{hidden_lines, take_stores, wrong_line};
 use crate::memories;
-use crate::pair::{Difference, Pair};
-use crate::places::{HIDDEN, LAST_TABLE_LINE, Side, TABLE_PAGE, line_address};
+use crate::pair::Pair;
+use crate::places::{HIDDEN, SPARE_TABLE_LINE, Side, TABLE_PAGE, line_address};
 use anyhow::{Result, anyhow, bail};
 use bridge::Bridge;
 use bridge::calls::{Call, Request, Step};
@@ -44,21 +44,18 @@ pub fn run_same<L: Memory + Drop, R: Memory + Drop>(
         left: &lefts,
         right: &rights,
     };
-    println!(rt; "{account}")?;
-    println!(rt;
-        "the same: every answer to a card, every buffer; after each call registers, rows and log"
-    )?;
-    println!(rt;
-        "hidden lines that hold in each memory what the stores put there: {lines} of {lines}"
-    )?;
+    print!(rt; "{account}")?;
+    println!(rt; "every burst had the same answer and the same buffer from both")?;
+    println!(rt; "after every call registers, rows and log were the same in both")?;
+    println!(rt; "hidden lines that hold in each memory what the stores put there: {lines}")?;
     Ok(())
 }
 
-// The store that breaks the premise: the last entry of a table of 128, which the list never stores, names a hidden page.
+// The store that breaks the premise: an entry that the list itself never stores names a hidden page.
 fn slip() -> Step {
     let mut bytes = [0; 32];
-    bytes[24..].copy_from_slice(&(HIDDEN[0] << 1 | 1).to_le_bytes());
-    let address = line_address(TABLE_PAGE, LAST_TABLE_LINE);
+    bytes[..8].copy_from_slice(&(HIDDEN[0] << 1 | 1).to_le_bytes());
+    let address = line_address(TABLE_PAGE, SPARE_TABLE_LINE);
     Step {
         call: Call::Processor(Request::Store { address, bytes }),
         answer: None,
@@ -71,13 +68,21 @@ fn with_slip(heap: Global, side: Side) -> Result<Vec<Step>, AllocError> {
     Ok(steps)
 }
 
-// Runs the list behind that store, and gives the first difference.
-pub fn run_with_slip(heap: Global) -> Result<Option<Difference>> {
+// Runs the list behind that store, and prints the first difference, which a card must see.
+pub fn run_with_slip(rt: &(impl Print + AllocGlobal)) -> Result<()> {
+    let heap = rt.alloc();
     let mut pair = Pair::new(
         memories::flat(heap)?,
         memories::banks_under_marks(heap, &[])?,
     );
     let mut lefts = with_slip(heap, Side::Left)?;
     let mut rights = with_slip(heap, Side::Right)?;
-    Ok(pair.run(&mut lefts, &mut rights).err())
+    match pair.run(&mut lefts, &mut rights) {
+        Err(difference) if difference.is_told_to_cards() => {
+            println!(rt; "{difference}")?;
+            Ok(())
+        }
+        Err(difference) => bail!("{difference}, before a card is told anything else"),
+        Ok(()) => bail!("nothing differs where the premise is broken"),
+    }
 }

@@ -1,12 +1,8 @@
 // What cards ask.
 use super::CallList;
-use crate::places::CARD_MEGABYTES;
 use crate::random::Random;
 use bridge::calls::{Burst, Call};
 use std::alloc::{AllocError, Global};
-
-// Pages of a megabyte that cards ask for: those of entries that the driver stores, two that are never mapped, and the last.
-const CARD_PAGES: [u32; 16] = [0, 1, 2, 3, 4, 5, 6, 7, 8, 9, 10, 11, 12, 13, 127, 127];
 
 // Places in a page: its first line, the end of a line, and its last two lines.
 const PAGE_PLACES: [u32; 5] = [0, 0x1c, 0x1fc0, 0x1fe0, 0x1ffc];
@@ -23,8 +19,27 @@ fn place(random: &mut Random) -> u32 {
     }
 }
 
+// A page of a megabyte: one of those whose entries the driver stores, or of two more, which are never mapped.
+fn page(random: &mut Random) -> u32 {
+    if random.once_in(8) {
+        127
+    } else {
+        random.below(14) as u32
+    }
+}
+
+// Mostly one of two megabytes that windows hold; else the one behind them, which none holds, or the last one.
+fn megabyte(random: &mut Random) -> u32 {
+    match random.below(16) {
+        0 => 0x4020_0000,
+        1 => 0xfff0_0000,
+        2..=8 => 0x4010_0000,
+        _ => 0x4000_0000,
+    }
+}
+
 fn pci_address(random: &mut Random) -> u32 {
-    random.pick(&CARD_MEGABYTES) | random.pick(&CARD_PAGES) << 13 | place(random)
+    megabyte(random) | page(random) << 13 | place(random)
 }
 
 // A count of longwords, which may be one that is refused.
