@@ -70,13 +70,12 @@ fn burst_result(step: &Step) -> Option<Result<(), u8>> {
     }
 }
 
-// Whether a step stored a line into a hidden page.
-fn stored_hidden(step: &Step) -> bool {
-    match &step.call {
-        Call::Processor(Request::Store { address, .. }) => {
-            is_hidden(*address) && step.answer == Some(CallAnswer::Store(Ok(())))
-        }
-        _ => false,
+// The bytes that a step stored into a hidden page, if it did.
+fn hidden_store(step: &Step) -> Option<[u8; 32]> {
+    match (&step.call, step.answer?) {
+        (Call::Processor(Request::Store { address, bytes }), CallAnswer::Store(Ok(())))
+            if is_hidden(*address) => { Some(*bytes) }
+        _ => None,
     }
 }
 
@@ -102,8 +101,12 @@ impl Account<'_> {
             .count()
     }
 
-    fn hidden_stores(&self) -> usize {
-        self.left.iter().filter(|step| stored_hidden(step)).count()
+    fn differing_stores(&self) -> usize {
+        self.left
+            .iter()
+            .zip(self.right.iter())
+            .filter(|(left, right)| hidden_store(left) != hidden_store(right))
+            .count()
     }
 
     fn differing_answers(&self) -> usize {
@@ -128,7 +131,7 @@ impl fmt::Display for Account<'_> {
         writeln!(
             f,
             "stores of different bytes into hidden pages: {}",
-            self.hidden_stores()
+            self.differing_stores()
         )?;
         writeln!(
             f,

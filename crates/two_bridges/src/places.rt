@@ -1,22 +1,23 @@
-// Which pages the processor hides, where the tables lie, and where windows and entries lead.
+// Which pages are hidden, where the tables lie, and where windows and entries lead.
 //
 // The premise of the isolation theorem holds of every list of calls that `calls.rt` makes, whatever its random numbers are:
 //
 // - A window is disabled before its other registers change, and is then one of `WINDOWS`. So the tables in use lie in
-//   `TABLE_PAGE` and in page 800h, which is absent, and an enabled plain window leads to pages 80h to FFh, 100h to 1FFh and
+//   `TABLE_PAGE` and in page 800h, which is absent, and an enabled plain window leads to pages 80h to FFh, 100h to 1FFh or
 //   80000h to 8007Fh. No hidden page and no page of a table is among them.
-// - The lines of `TABLE_PAGE` hold zeros at first, and only `Request::Store` of a line of entries goes there; of these a valid
-//   one names one of `ENTRY_PAGES`. An entry that is not valid may hold the number of a hidden page: it names none. So no
-//   valid entry ever names a hidden page or a page of a table, and neither does a row, which is filled by a valid entry.
-// - Cards therefore write to pages 80h to 1FFh and to `ENTRY_PAGES` alone, and change no table.
+// - The lines of `TABLE_PAGE` hold zeros at first. Only the driver stores there, and its valid entries name `ENTRY_PAGES`; an
+//   entry that is not valid may hold the number of a hidden page, but names none. A row is filled by a valid entry. So no
+//   entry and no row names a hidden page or a page of a table.
+// - So a card writes to pages that a plain window leads to and to `ENTRY_PAGES` alone, and changes no table.
 //
-// The two memories are filled alike outside hidden pages (`memories.rt`), and the two lists differ only in the bytes that are
-// stored into hidden pages.
+// Besides, the two memories are filled alike outside hidden pages (`memories.rt`), and the two lists of calls differ in the
+// bytes of stores into hidden pages alone (`calls.rt`).
 use memory::banks::Bank;
 
-// Lines of a page, and its bytes.
+// Lines of a page.
 pub const PAGE_LINES: u64 = 256;
 
+// Bytes of a page.
 pub const PAGE_BYTES: u64 = 8192;
 
 // Both memories have 136 pages: the first megabyte and eight pages more.
@@ -41,6 +42,7 @@ pub const BANKS: [Bank; 3] = [
 // The pages that the processor keeps to itself.
 pub const HIDDEN: [u64; 4] = [3, 5, 0x40, 0x7f];
 
+// The page of the table that is there. It is no hidden page: the processor keeps it closed, but the same on both sides.
 pub const TABLE_PAGE: u64 = 2;
 
 // The lines of the table that the driver stores: those of the first twelve entries, of the last four of 128, and of eight that
@@ -64,6 +66,7 @@ pub struct Window {
     pub mask: u32,
 }
 
+// The windows that the driver sets up.
 pub const WINDOWS: [Window; 9] = [
     // PCI 4000_0000h to 400F_FFFFh, mapped by 128 entries of the table.
     Window {
