@@ -1,0 +1,58 @@
+// Numbers that look random, and are the same in each run.
+ghost use Rattle.std.specs.Prelude.{◌<◌, length};
+
+#[derive(Clone, Copy)]
+pub struct Random {
+    state: u64,
+}
+
+impl Random {
+    // From a seed that is not 0, no state is ever 0.
+    pub fn new(seed: u64) -> Random {
+        Random { state: seed }
+    }
+
+    // Marsaglia's xorshift of 64 bits.
+    fn next(&mut self) -> u64 {
+        self.state ^= self.state << 13;
+        self.state ^= self.state >> 7;
+        self.state ^= self.state << 17;
+        self.state
+    }
+
+    pub fn below(&mut self, bound: u64) -> u64
+        requires { 0 < bound }
+        ensures { result < bound }
+    {
+        self.next() % bound
+    }
+
+    // One time in `times`.
+    pub fn once_in(&mut self, times: u64) -> bool
+        requires { 0 < times }
+    {
+        self.below(times) == 0
+    }
+
+    pub fn pick<T: Copy>(&mut self, choices: &[T]) -> T
+        requires { 0 < length choices.now }
+    {
+        choices[self.below(choices.len() as u64) as usize]
+    }
+
+    pub fn word(&mut self) -> u32 {
+        (self.next() >> 32) as u32
+    }
+
+    pub fn byte(&mut self) -> u8 {
+        (self.next() >> 56) as u8
+    }
+
+    pub fn line(&mut self) -> [u8; 32] {
+        let mut bytes = [0; 32];
+        for byte in bytes.iter_mut() {
+            *byte = self.byte();
+        }
+        bytes
+    }
+}
