@@ -8,7 +8,7 @@ use bridge::{Bridge, new_pair};
 use memory::Memory;
 use std::fmt;
 
-// Two new bridges. The contract of `new_pair` is the isolation theorem for the two.
+// Two bridges that perform the same calls, but for the bytes of stores into hidden pages.
 #[derive(Drop)]
 pub struct Pair<L: Memory, R: Memory> {
     pub left: Bridge<L>,
@@ -45,7 +45,7 @@ impl fmt::Display for Part {
             Part::CardAnswer => write!(f, "the answers to the card"),
             Part::CardBuffer => write!(f, "the buffers of the card"),
             Part::ProcessorAnswer => write!(f, "the answers to the processor"),
-            Part::Register(n) => write!(f, "the registers {n}"),
+            Part::Register(n) => write!(f, "the values of register {n}"),
             Part::Log => write!(f, "the logs"),
         }
     }
@@ -74,6 +74,7 @@ fn buffer_of(call: &Call) -> &[u32] {
     }
 }
 
+// Answers to loads of hidden pages may differ, all others may not.
 fn compare_steps(left: &Step, right: &Step) -> Result<(), Part> {
     if left.answer != right.answer && !loads_hidden(&left.call) {
         return Err(match left.call {
@@ -88,6 +89,7 @@ fn compare_steps(left: &Step, right: &Step) -> Result<(), Part> {
 }
 
 impl<L: Memory, R: Memory> Pair<L, R> {
+    // Two new bridges. That they are isolated is the theorem that `new_pair` promises.
     pub fn new(left: L, right: R) -> Pair<L, R>
         ensures { IsolatedRuns (state_of L.Memory.content result.left) (state_of R.Memory.content result.right) }
     {
