@@ -5,6 +5,7 @@ use Rattle.session.specs.Forms.{pair_of}
 use Rattle.session.specs.Hex.{Reads}
 use Rattle.session.proofs.Arguments.{pair_ahead, parsed_break}
 use Rattle.session.proofs.PairLists.{pairs_all, pairs_fail, pairs_more, pairs_numbers}
+use Rattle.session.proofs.forms.read_pairs.Goals.{in_default, in_default-2, in_default-3, in_default-4, in_default-5, in_default-rest-via-then-rest-lt1, in_default-rest-via-else-rest-lt1+then-rest-lt2+in-Open-1, in_default-rest-via-else-rest-lt1+else-rest-lt2}
 use Rattle.session.proofs.forms.read_pairs.Goals as goal
 
 pub returns-in_err-read_pair : goal.returns-in_err-read_pair
@@ -29,4 +30,16 @@ pub returns-in-Close : goal.returns-in-Close
 returns-in-Close c = pairs_all _ (lexemes c.loop-rest.rest.now) _ c.loop-rest.invariant (grind (arith, common_steps))
 
 pub returns-in_default-rest : goal.returns-in_default-rest
-returns-in_default-rest c = pairs_fail _ (lexemes c.loop-rest.rest.now) _ c.loop-rest.invariant (grind (arith, common_steps)) (λ p us h. grind (arith, common_steps))
+returns-in_default-rest c = pairs_fail _ (lexemes c.loop-rest.rest.now) _ c.loop-rest.invariant
+    (λ h. elim c.in_default-rest.branch [
+      in_default-rest-via-then-rest-lt1 w ↦ grind (arith, common_steps)
+      | in_default-rest-via-else-rest-lt1+then-rest-lt2+in-Open-1 w ↦ grind (arith, common_steps)
+      | in_default-rest-via-else-rest-lt1+else-rest-lt2 w ↦ grind (arith, common_steps)
+      ])
+    (λ p us h. elim c.if-rest-lt4.branch [
+      in_default w ↦ grind (arith, common_steps)
+      | in_default-2 w ↦ grind (arith, common_steps)
+      | in_default-3 w ↦ grind (arith, common_steps)
+      | in_default-4 w ↦ grind (arith, common_steps)
+      | in_default-5 w ↦ grind (arith, common_steps)
+      ])
