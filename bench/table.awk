@@ -1,4 +1,4 @@
-# Reads the rows of all runs, files of the proved program first, and prints the table. Fails where a checksum differs.
+# Reads the rows of all runs, those of the proved program first, and prints the table. Fails where a checksum differs.
 function least(times, row, time) {
     if (!(row in times) || time < times[row]) {
         times[row] = time
@@ -18,7 +18,7 @@ $1 == "total" {
         print "checksums differ: " row
         bad = 1
     }
-    if (FILENAME ~ /(^|\/)proved\.[0-9]+$/) {
+    if (FILENAME ~ /proved\.rows$/) {
         least(proved, row, $6)
     } else {
         least(model, row, $6)

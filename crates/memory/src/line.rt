@@ -3,7 +3,8 @@ ghost use Rattle.std.specs.Prelude.{◌≡◌, ◌+◌, ◌≤◌, length, take,
 ghost use borrow.Rule.Slice.PartMut.{put_mid};
 ghost use Rattle.memory.specs.Content.{merged};
 
-// Puts the bytes whose mask bit is set into a line. It is a slice, since a part lent as an array is not followed back.
+// Puts the bytes whose mask bit is set into a line. It is a slice, since a part lent as an array is not followed back. Each byte is
+// chosen without a branch, since the bits of a mask are hard to foretell.
 fn merge(line: &mut [u8], new: &[u8; 32], mask: u32)
     requires { length line.old ≡ 32 }
     ensures { line.new ≡ merged mask line.old new.now }
@@ -12,9 +13,7 @@ fn merge(line: &mut [u8], new: &[u8; 32], mask: u32)
         line.copy_from_slice(new);
     } else {
         for (i, byte) in line.iter_mut().enumerate() {
-            if (mask >> i) & 1 == 1 {
-                *byte = new[i];
-            }
+            *byte = if (mask >> i) & 1 == 1 { new[i] } else { *byte };
         }
     }
 }

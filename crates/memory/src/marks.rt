@@ -6,7 +6,7 @@ ghost use Rattle.memory.specs.Marked.{AllPresent, Distinct, NeverSpoiled, lines_
 ghost use Rattle.std.proofs.Common.{rules};
 
 use crate::refusals::Refusal;
-use crate::rows::{Row, find};
+use crate::rows::{Row, find, is_answered};
 use crate::{Memory, MemoryFault};
 use std::alloc::{AllocError, Global};
 
@@ -74,7 +74,7 @@ impl<M: Memory> Marks<M> {
     fn is_marked(&self, line: u64) -> bool
         ensures { result ≡ marked (marks_of self.now) line }
     {
-        find(&self.marks, line).is_some()
+        is_answered(&self.marks, line)
     }
 
     // Removes the mark of a line, if it has one.

@@ -1,5 +1,6 @@
 // One search for every kind of row: banks, marks, look-aside rows.
 ghost use Rattle.std.specs.Prelude.{◌≡◌, ℕ, Bool};
+ghost use Rattle.std.specs.List.{list_any};
 ghost use Rattle.memory.specs.Rows.{Finds, FoundOnce, held_answers};
 
 // A kind of row says for which numbers it answers.
@@ -29,6 +30,17 @@ pub fn find<R: Row>(rows: &[R], n: u64) -> Option<usize>
         }
     }
     None
+}
+
+// Whether some row answers for n. It looks at all rows and leaves at none, so that several are compared at once.
+pub fn is_answered<R: Row>(rows: &[R], n: u64) -> bool
+    ensures { result ≡ list_any (λ row. R.answers row n) rows.now }
+{
+    let mut answered = false;
+    for row in rows {
+        answered |= row.answers(n);
+    }
+    answered
 }
 
 // What `find` may answer is one thing: what `first_index` computes.
