@@ -1,11 +1,12 @@
 -- What a card write puts into a line: bytes and masks.
-use Rattle.std.proofs.Common.{◌≡◌, ℕ, suc, ◌+◌, ◌-◌, ◌*◌, ◌/◌, ◌%◌, ◌^◌, ◌<◌, ◌≤◌, false, ltb, ◌⊎◌, List, [], ◌∷◌, ◌++◌, length, get_or, take, drop, replicate, sym, refl, ap, ◌∙◌, inl, inr, ⊎_elim, arith, rules, pow_mono}
+use Rattle.std.proofs.Common.{◌≡◌, ℕ, suc, ◌+◌, ◌-◌, ◌*◌, ◌/◌, ◌%◌, ◌^◌, ◌<◌, ◌≤◌, false, ltb, List, [], ◌∷◌, ◌++◌, length, get_or, take, drop, replicate, sym, refl, ap, ◌∙◌, ⊎_elim, arith, pow_mono}
 use borrow.Rule.Slice.PartMut.{put_mid}
-use Rattle.std.proofs.lemmas.Bool.{cases_Bool, cond-false, cond-true, le-ltb, lt-ltb, or_parts, ltb-false, ltb-true}
-use Rattle.std.proofs.lemmas.List.{at_drop_more, get_or-replicate, get_or_past, length-drop, places, take-append-drop}
+use Rattle.std.proofs.lemmas.Bool.{cond-false, cond-true, le-ltb, lt-ltb, or_parts, ltb-false}
+use Rattle.std.proofs.lemmas.List.{at_drop_more, get_or-replicate, get_or_past, length-drop, take-append-drop}
 use Rattle.std.proofs.lemmas.List.Folds.{list_any-append}
 use Rattle.std.proofs.lemmas.List.FromFn.{fill_by_all}
 use Rattle.std.proofs.lemmas.Nat.{pow-add}
+use Rattle.memory.proofs.PutParts.{below_or_not, put_above, put_below, put_here, put_long}
 use Rattle.bridge.specs.Bursts.{wide_enable}
 use Rattle.bridge.specs.Longwords.{enable_bits, line_byte, line_bytes, word_bytes}
 
@@ -39,9 +40,6 @@ pub bits_from_fit : (es : List ℕ) (j : ℕ) → length es ≤ 8 → wide_enabl
 bits_from_fit es j few narrow =
     bits_fit (drop j es) (omega (arith, length-drop j es)) (wide_parts (take j es) (drop j es) (ap wide_enable (take-append-drop j es) ∙ narrow)).1
 
-below_or_not : (j n : ℕ) → (j < n) ⊎ (n ≤ j)
-below_or_not j n = ⊎_elim (λ t. inl (ltb-true _ _ t)) (λ t. inr (ltb-false _ _ t)) (cases_Bool (ltb j n))
-
 -- so many bytes of a line are those that have the longwords from an offset on, and the others are 0
 pub record Filled (offset : ℕ) (words bytes : List ℕ) (n : ℕ) : Type 0 where
   pub long : length bytes ≡ 32
@@ -69,20 +67,6 @@ byte_past offset j words h =
     let none : get_or words ((j - offset) / 4) 0 ≡ 0 = get_or_past words ((j - offset) / 4) 0 (omega arith) in
     let m : (j - offset) % 4 < 4 = omega arith in
     cond-false _ _ _ (le-ltb j offset (omega arith)) ∙ rw none (get_or-replicate 4 ((j - offset) % 4) 0 0 m)
-
--- the places below a part that was written, inside it and behind it
-module _ (at w : ℕ) (bytes ys : List ℕ) (long : length ys ≡ w) (fits : at + w ≤ length bytes) where
-  put_below : (j : ℕ) → j < at → get_or (put_mid at w bytes ys) j 0 ≡ get_or bytes j 0
-  put_below j h = search (rules, places)
-
-  put_here : (j : ℕ) → at ≤ j → j < at + w → get_or (put_mid at w bytes ys) j 0 ≡ get_or ys (j - at) 0
-  put_here j h k = search (rules, places)
-
-  put_above : (j : ℕ) → at + w ≤ j → get_or (put_mid at w bytes ys) j 0 ≡ get_or bytes j 0
-  put_above j h = search (rules, places)
-
-  put_long : length (put_mid at w bytes ys) ≡ length bytes
-  put_long = search (rules, places)
 
 pub word_filled : (offset k w : ℕ) (words bytes : List ℕ) → w ≡ 4 → offset + 4 * k + w ≤ 32 → Filled offset words bytes (offset + 4 * k)
     → Filled offset words (put_mid (offset + 4 * k) w bytes (word_bytes (get_or words k 0))) (offset + 4 * (k + 1))
