@@ -6,11 +6,15 @@ ghost use Rattle.bridge.specs.Longwords.{enable_bits, line_mask};
 
 use crate::walk::Claimed;
 
-// Whether a number has more than four bits.
+// Whether a number has more than four bits. It looks at all of them and leaves at none, so that many are compared at once.
 pub(crate) fn any_is_wide(numbers: &[u8]) -> bool
     ensures { result ≡ wide_enable numbers.now }
 {
-    numbers.iter().any(|number| *number > 15)
+    let mut wide = false;
+    for number in numbers {
+        wide |= *number > 15;
+    }
+    wide
 }
 
 // Numbers that have four bits at most.
@@ -27,10 +31,13 @@ impl ByteEnables<'_> {
         ensures value { result ≡ enable_bits self.now.numbers.now }
         ensures bound { result < 2 ^ (4 * length self.now.numbers.now) }
     {
-        match self.numbers {
-            [] => 0,
-            [number, rest @ ..] => u32::from(*number) + 16 * ByteEnables { numbers: rest }.bits(),
+        let mut bits = 0;
+        let mut left = self.numbers.len();
+        while left > 0 {
+            left -= 1;
+            bits = 16 * bits + u32::from(self.numbers[left]);
         }
+        bits
     }
 
     // The mask of a line that has longwords from an offset on.
@@ -49,4 +56,5 @@ pub(crate) struct WritePiece<'w, 'e> {
     pub(crate) words: &'w [u32],
     pub(crate) enables: ByteEnables<'e>,
     ghost in_line: { bits 4 2 claimed.pci + length enables.numbers.now ≤ 8 },
+    ghost paired: { length words.now ≡ length enables.numbers.now },
 }

@@ -17,12 +17,24 @@ use crate::walk::Claimed;
 use memory::Memory;
 
 // Fills `words` with the longwords from an offset of a line on.
-fn take_longwords(line: &[u8; 32], offset: usize, words: &mut [u32])
+fn take_from(line: &[u8; 32], offset: usize, words: &mut [u32])
     requires { offset + 4 * length words.old ≤ 32 }
     ensures { words.new ≡ longwords (length words.old) offset line.now }
 {
     for (k, word) in words.iter_mut().enumerate() {
         *word = longword(line, offset + 4 * k);
+    }
+}
+
+// The same. Most lines are taken whole, and then the compiler knows how much is copied.
+fn take_longwords(line: &[u8; 32], offset: usize, words: &mut [u32])
+    requires { offset + 4 * length words.old ≤ 32 }
+    ensures { words.new ≡ longwords (length words.old) offset line.now }
+{
+    if words.len() == 8 {
+        take_from(line, 0, words);
+    } else {
+        take_from(line, offset, words);
     }
 }
 

@@ -26,6 +26,7 @@ fn page_address(page: u32, pci: u32) -> u64
 
 impl<M: Memory> Bridge<M> {
     // The page that the entry of a table names.
+    #[inline(never)]
     fn entry_page(&self, address: u64) -> Result<u32, WalkFault>
         requires { address % 8 ≡ 0 }
         ensures { result ≡ entry_of (M.Memory.content self.now.memory (address / 32)) address }
@@ -41,6 +42,7 @@ impl<M: Memory> Bridge<M> {
     }
 
     // Where a claimed address leads. The page of a valid entry goes into the look-aside rows.
+    #[inline(always)]
     pub(crate) fn translate(&mut self, claimed: Claimed) -> Result<u64, WalkFault>
         ensures place { place_by result ≡ (located_claimed (state_of M.Memory.content self.old) claimed.pci claimed.number claimed.mapped).place }
         ensures low { IfOk result (λ address. address % 32 ≡ claimed.pci % 32) }

@@ -3,7 +3,7 @@ ghost use Rattle.std.specs.Prelude.{◌≡◌, ◌+◌, ◌*◌, ◌%◌, ◌^�
 ghost use Rattle.bridge.specs.BurstAnswers.{write_answered};
 ghost use Rattle.bridge.specs.Bursts.{card_write, third_check, wide_enable};
 ghost use Rattle.bridge.specs.Calls.{burst_outcome, card, performed, write_outcome};
-ghost use Rattle.bridge.specs.Longwords.{byte_of, line_byte, line_bytes};
+ghost use Rattle.bridge.specs.Longwords.{line_bytes};
 ghost use Rattle.bridge.specs.Pieces.{after_piece, edited, outcome_by_write, outcome_claimed, piece_of};
 ghost use Rattle.bridge.specs.State.{state_of, with_lines, with_rows};
 
@@ -18,31 +18,15 @@ use crate::log::Direction;
 use crate::walk::Claimed;
 use memory::Memory;
 
-// Byte j of some longwords, 0 past their end.
-fn byte_of(words: &[u32], j: usize) -> u8
-    ensures { result ≡ byte_of words.now j }
-{
-    words.get(j / 4).map_or(0, |word| word.to_le_bytes()[j % 4])
-}
-
-// Byte i of a line that has the longwords from an offset on.
-fn line_byte(offset: usize, words: &[u32], i: usize) -> u8
-    ensures { result ≡ line_byte offset words.now i }
-{
-    if i < offset {
-        0
-    } else {
-        byte_of(words, i - offset)
-    }
-}
-
 // The longwords at their place in a line.
 fn line_bytes(offset: usize, words: &[u32]) -> [u8; 32]
+    requires { offset + 4 * length words.now ≤ 32 }
     ensures { result ≡ line_bytes offset words.now }
 {
     let mut bytes = BLANK;
-    for (i, byte) in bytes.iter_mut().enumerate() {
-        *byte = line_byte(offset, words, i);
+    for (k, word) in words.iter().enumerate() {
+        let at = offset + 4 * k;
+        bytes[at..at + 4].copy_from_slice(&word.to_le_bytes());
     }
     bytes
 }

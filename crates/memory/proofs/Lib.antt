@@ -1,3 +1,5 @@
+pub mod PutParts
+pub mod LongwordMerges
 pub mod MarkCounts
 pub mod MarkLists
 pub mod MarkedLines

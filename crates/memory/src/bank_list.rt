@@ -1,18 +1,21 @@
 // A list of banks that the checks have passed: it exists only by its constructor.
-ghost use Rattle.std.specs.Prelude.{◌≡◌, ◌^◌, ◌<◌, ◌≤◌, take, None, IfOk};
+ghost use Rattle.std.specs.Prelude.{◌≡◌, ℕ, ◌^◌, ◌<◌, ◌≤◌, length, take, None, IfOk, slice_index};
 ghost use Rattle.std.specs.Result.{result_err};
 ghost use Rattle.memory.specs.Answers.{answered, no_values};
-ghost use Rattle.memory.specs.Banks.{BankListsJudged, list_answer, list_cause, list_fault};
+ghost use Rattle.memory.specs.Banks.{BankListsJudged, list_answer, list_cause, list_fault, total};
 
-use crate::banks::{Bank, BankListRefusal, check};
+use crate::banks::{Bank, BankListRefusal, check, starts_of};
 
-// One to eight banks, laid one behind the other in `room` bytes. An array with its count is `Copy`, and allocates nothing.
+// One to eight banks, laid one behind the other in `room` bytes, with the place where each begins there. An array with its count is
+// `Copy`, and allocates nothing.
 #[derive(Clone, Copy)]
 pub struct BankList {
     banks: [Bank; 8],
+    starts: [usize; 8],
     count: usize,
     room: usize,
     ghost few: { count ≤ 8 },
+    ghost behind: { (k : ℕ) → k < count → slice_index starts k ≡ total (take k banks) },
     ghost faultless: { list_fault (take count banks) room ≡ None },
     ghost narrow: { room < 2 ^ 64 },
 }
@@ -27,11 +30,13 @@ impl BankList {
         ensures held { IfOk result (λ l. (banks_of l ≡ banks.now) × (l.room ≡ n)) }
     {
         check(banks, n)?;
+        let starts = starts_of(banks);
         let count = banks.len();
         let mut kept = [Bank::default(); 8];
         kept[..count].copy_from_slice(banks);
         Ok(BankList {
             banks: kept,
+            starts,
             count,
             room: n,
         })
@@ -47,6 +52,14 @@ impl BankList {
         ensures { result.now ≡ banks_of self.now }
     {
         &self.banks[..self.count]
+    }
+
+    // Where the bytes of a bank begin among those of all banks.
+    pub(crate) fn start(&self, i: usize) -> usize
+        requires { i < length (banks_of self.now) }
+        ensures { result ≡ total (take i (banks_of self.now)) }
+    {
+        self.starts[i]
     }
 
     // The bytes that the list was made for.

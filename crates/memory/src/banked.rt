@@ -7,7 +7,6 @@ ghost use Rattle.memory.specs.BankPlaces.{places_apart};
 ghost use Rattle.std.proofs.Common.{rules, arith};
 
 use crate::bank_list::BankList;
-use crate::banks::bytes_of;
 use crate::layout::{LINES, Laid, Layout};
 use crate::rows::find;
 use std::alloc::{AllocError, Global};
@@ -26,7 +25,7 @@ impl Layout for BankList {
         let address = line * 32;
         let banks = self.as_slice();
         let i = find(banks, address)?;
-        Some(bytes_of(&banks[..i]) + (address - banks[i].base) as usize)
+        Some(self.start(i) + (address - banks[i].base) as usize)
     }
 }
 

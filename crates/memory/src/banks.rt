@@ -1,5 +1,5 @@
 // Banks of memory, and the checks of a list of them.
-ghost use Rattle.std.specs.Prelude.{◌≡◌, ◌+◌, ◌^◌, ◌<◌, [], ◌∷◌, nat_le};
+ghost use Rattle.std.specs.Prelude.{◌≡◌, ℕ, ◌+◌, ◌^◌, ◌<◌, ◌≤◌, [], ◌∷◌, length, take, nat_le, slice_index};
 ghost use Rattle.std.specs.Result.{result_err};
 ghost use Rattle.memory.specs.Banks.{apart, bank_fault, clear, holds, list_cause, list_fault, size_fits, total};
 
@@ -135,4 +135,18 @@ pub(crate) fn bytes_of(banks: &[Bank]) -> usize
     ensures { result ≡ total banks.now }
 {
     banks.iter().map(|bank| bank.size as usize).sum()
+}
+
+// Where the bytes of each bank begin, the banks laid one behind the other.
+pub(crate) fn starts_of(banks: &[Bank]) -> [usize; 8]
+    requires { (length banks.now ≤ 8) × (total banks.now < 2 ^ 64) }
+    ensures { (k : ℕ) → k < length banks.now → slice_index result k ≡ total (take k banks.now) }
+{
+    let mut starts = [0; 8];
+    let mut start = 0;
+    for (i, bank) in banks.iter().enumerate() {
+        starts[i] = start;
+        start += bank.size as usize;
+    }
+    starts
 }

@@ -50,6 +50,7 @@ impl<L: Layout> Laid<L> {
         Ok(Laid { layout, bytes })
     }
 
+    #[inline(always)]
     fn offset_of(&self, line: u64) -> Option<usize>
         ensures { result ≡ inside (vec_len self.now.bytes) (L.Layout.place self.now.layout line) }
     {
@@ -70,6 +71,7 @@ impl<L: Layout> Memory for Laid<L> {
         self.offset_of(line).is_some()
     }
 
+    #[inline(always)]
     fn read(&self, line: u64, place: &mut [u8; 32]) -> Result<(), MemoryFault> {
         let at = self.offset_of(line).ok_or(MemoryFault::Absent(line))?;
         fetch(&self.bytes, at, place);

@@ -1,7 +1,25 @@
 // The 32 bytes of one line inside a run of bytes.
-ghost use Rattle.std.specs.Prelude.{◌≡◌, ◌+◌, ◌≤◌, length, take, drop};
+ghost use Rattle.std.specs.Prelude.{◌≡◌, ℕ, ◌+◌, ◌<◌, ◌≤◌, cond, length, take, drop, slice_index};
 ghost use borrow.Rule.Slice.PartMut.{put_mid};
-ghost use Rattle.memory.specs.Content.{merged};
+ghost use Rattle.memory.specs.Content.{bit, merged};
+
+// Puts the bytes whose mask bit is set into four bytes of a line, from `first` on. Each byte is chosen without a branch, since the
+// bits of a mask are hard to foretell.
+fn merge_longword(part: &mut [u8], first: usize, new: &[u8; 32], mask: u32)
+    requires { (length part.old ≡ 4) × (first + 4 ≤ 32) }
+    ensures long { length part.new ≡ 4 }
+    ensures merged { (i : ℕ) → i < 4 → slice_index part.new i ≡ cond (bit mask (first + i)) (slice_index new.now (first + i)) (slice_index part.old i) }
+{
+    if (mask >> first) % 16 != 0 {
+        for (i, byte) in part.iter_mut().enumerate() {
+            *byte = if (mask >> (first + i)) & 1 == 1 {
+                new[first + i]
+            } else {
+                *byte
+            };
+        }
+    }
+}
 
 // Puts the bytes whose mask bit is set into a line. It is a slice, since a part lent as an array is not followed back.
 fn merge(line: &mut [u8], new: &[u8; 32], mask: u32)
@@ -11,20 +29,19 @@ fn merge(line: &mut [u8], new: &[u8; 32], mask: u32)
     if mask == u32::MAX {
         line.copy_from_slice(new);
     } else {
-        for (i, byte) in line.iter_mut().enumerate() {
-            if (mask >> i) & 1 == 1 {
-                *byte = new[i];
-            }
+        for k in 0..8 {
+            merge_longword(&mut line[4 * k..4 * k + 4], 4 * k, new, mask);
         }
     }
 }
 
 // Copies the line that begins at `at` into a place.
+#[inline(always)]
 pub(crate) fn fetch(bytes: &[u8], at: usize, place: &mut [u8; 32])
     requires { at + 32 ≤ length bytes.now }
     ensures { place.new ≡ take 32 (drop at bytes.now) }
 {
-    place.copy_from_slice(&bytes[at..at + 32]);
+    *place = bytes[at..at + 32].try_into().unwrap();
 }
 
 // Writes into the line that begins at `at`, under a mask.

@@ -122,6 +122,7 @@ impl<M: Memory> Memory for Marks<M> {
         self.below.present(line)
     }
 
+    #[inline(always)]
     fn read(&self, line: u64, place: &mut [u8; 32]) -> Result<(), MemoryFault> {
         if self.is_marked(line) && self.below.present(line) {
             return Err(MemoryFault::Spoiled(line));

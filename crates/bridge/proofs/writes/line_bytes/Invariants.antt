@@ -1,6 +1,6 @@
-use Rattle.std.proofs.Common.{◌≡◌, ℕ, ◌<◌, length, get_or}
-use Rattle.bridge.specs.Longwords.{line_byte}
+use Rattle.std.proofs.Common.{◌+◌, ◌*◌}
+use Rattle.bridge.proofs.LineBytes.{Filled}
 use Rattle.bridge.proofs.writes.line_bytes.Given as goal
 
-abbrev pub invariant-loop-i : goal.invariant-loop-i
-invariant-loop-i l = (length l.byte-items ≡ 32) × ((j : ℕ) → j < l.i → get_or l.byte-items j 0 ≡ line_byte l.offset l.words j)
+abbrev pub invariant-loop-k : goal.invariant-loop-k
+invariant-loop-k l = Filled l.offset l.words l.bytes (l.offset + 4 * l.k)

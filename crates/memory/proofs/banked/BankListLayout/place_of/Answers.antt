@@ -9,5 +9,5 @@ returns-in_err-i c =
 
 pub returns : goal.returns
 returns c =
-    rw (c.bytes_of.ensures, ← c.as_slice-banks.ensures)
+    rw (c.start.ensures, ← c.as_slice-banks.ensures)
     (sym (places_by _ c.args.line (Some c.in_ok-i.i) (omega arith) c.in_ok-i.ensures))
