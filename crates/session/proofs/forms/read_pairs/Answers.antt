@@ -32,14 +32,14 @@ returns-in-Close c = pairs_all _ (lexemes c.loop-rest.rest.now) _ c.loop-rest.in
 pub returns-in_default-rest : goal.returns-in_default-rest
 returns-in_default-rest c = pairs_fail _ (lexemes c.loop-rest.rest.now) _ c.loop-rest.invariant
     (λ h. elim c.in_default-rest.branch [
-      in_default-rest-via-then-rest-lt1 w ↦ grind (arith, common_steps)
+      | in_default-rest-via-then-rest-lt1 w ↦ grind (arith, common_steps)
       | in_default-rest-via-else-rest-lt1+then-rest-lt2+in-Open-1 w ↦ grind (arith, common_steps)
       | in_default-rest-via-else-rest-lt1+else-rest-lt2 w ↦ grind (arith, common_steps)
-      ])
+    ])
     (λ p us h. elim c.if-rest-lt4.branch [
-      in_default w ↦ grind (arith, common_steps)
+      | in_default w ↦ grind (arith, common_steps)
       | in_default-2 w ↦ grind (arith, common_steps)
       | in_default-3 w ↦ grind (arith, common_steps)
       | in_default-4 w ↦ grind (arith, common_steps)
       | in_default-5 w ↦ grind (arith, common_steps)
-      ])
+    ])
