@@ -22,7 +22,7 @@ struct CallList {
 }
 
 // The calls for one side.
-pub fn call_list(heap: Global, side: Side) -> Result<Vec<Step>, AllocError> {
+pub(crate) fn call_list(heap: Global, side: Side) -> Result<Vec<Step>, AllocError> {
     let mut list = CallList {
         side,
         random: Random::new(SEED),

@@ -14,7 +14,7 @@ pub struct HiddenLine {
 }
 
 // All lines of hidden pages as they are at first.
-pub fn hidden_lines(heap: Global, side: Side) -> Result<Vec<HiddenLine>, AllocError> {
+pub(crate) fn hidden_lines(heap: Global, side: Side) -> Result<Vec<HiddenLine>, AllocError> {
     let mut lines = Vec::new(heap);
     for line in 0..PAGES * PAGE_LINES {
         if is_hidden_line(line) {
@@ -36,14 +36,14 @@ fn take_store(lines: &mut [HiddenLine], step: &Step) {
     }
 }
 
-pub fn take_stores(lines: &mut [HiddenLine], steps: &[Step]) {
+pub(crate) fn take_stores(lines: &mut [HiddenLine], steps: &[Step]) {
     for step in steps {
         take_store(lines, step);
     }
 }
 
 // The first line that does not hold what it should.
-pub fn wrong_line<M: Memory>(lines: &[HiddenLine], bridge: &Bridge<M>) -> Option<u64> {
+pub(crate) fn wrong_line<M: Memory>(lines: &[HiddenLine], bridge: &Bridge<M>) -> Option<u64> {
     lines
         .iter()
         .find(|line| bridge.load(line.address).ok() != line.content)

@@ -33,7 +33,7 @@ fn first_bytes(side: Side, line: u64) -> [u8; 32] {
 }
 
 // What a hidden line holds at first, or none where it is spoiled.
-pub fn first_content(side: Side, line: u64) -> Option<[u8; 32]> {
+pub(crate) fn first_content(side: Side, line: u64) -> Option<[u8; 32]> {
     let marked = side == Side::Right && HIDDEN_MARKS.contains(&line);
     (!marked).then(|| first_bytes(side, line))
 }
@@ -58,21 +58,21 @@ fn mark_all<M: Memory>(memory: &mut Marks<M>, lines: &[u64]) -> Result<()> {
 }
 
 // The left memory: flat, and never spoiled.
-pub fn flat(heap: Global) -> Result<Flat> {
+pub(crate) fn flat(heap: Global) -> Result<Flat> {
     let mut memory = Flat::zeros(heap, BYTES)?;
     fill(&mut memory, Side::Left)?;
     Ok(memory)
 }
 
 // The left memory under marks of its own.
-pub fn flat_under_marks(heap: Global, marks: &[u64]) -> Result<Marks<Flat>> {
+pub(crate) fn flat_under_marks(heap: Global, marks: &[u64]) -> Result<Marks<Flat>> {
     let mut memory = Marks::new(heap, flat(heap)?)?;
     mark_all(&mut memory, marks)?;
     Ok(memory)
 }
 
 // The right memory: banks under marks, of hidden lines and of others.
-pub fn banks_under_marks(heap: Global, marks: &[u64]) -> Result<Marks<Banked>> {
+pub(crate) fn banks_under_marks(heap: Global, marks: &[u64]) -> Result<Marks<Banked>> {
     let list = BankList::new(&BANKS, BYTES).map_err(|refusal| anyhow!("{refusal:?}"))?;
     let mut memory = Marks::new(heap, Banked::zeros(heap, list)?)?;
     fill(&mut memory, Side::Right)?;

@@ -34,7 +34,7 @@ pub struct Difference {
 
 impl Difference {
     // Whether it is one that a card sees.
-    pub fn is_told_to_cards(&self) -> bool {
+    pub(crate) fn is_told_to_cards(&self) -> bool {
         matches!(self.part, Part::CardAnswer | Part::CardBuffer)
     }
 }
@@ -90,7 +90,7 @@ fn compare_steps(left: &Step, right: &Step) -> Result<(), Part> {
 
 impl<L: Memory, R: Memory> Pair<L, R> {
     // Two new bridges. That they are isolated is the theorem that `new_pair` promises.
-    pub fn new(left: L, right: R) -> Pair<L, R>
+    pub(crate) fn new(left: L, right: R) -> Pair<L, R>
         ensures { IsolatedRuns (state_of L.Memory.content result.left) (state_of R.Memory.content result.right) }
     {
         let (left, right) = new_pair(left, right);
@@ -125,7 +125,7 @@ impl<L: Memory, R: Memory> Pair<L, R> {
     }
 
     // Performs two lists of calls, up to the first difference.
-    pub fn run(&mut self, left: &mut [Step], right: &mut [Step]) -> Result<(), Difference> {
+    pub(crate) fn run(&mut self, left: &mut [Step], right: &mut [Step]) -> Result<(), Difference> {
         for (call, (left, right)) in left.iter_mut().zip(right.iter_mut()).enumerate() {
             self.perform(left, right)
                 .map_err(|part| Difference { call, part })?;

@@ -125,15 +125,15 @@ pub const WINDOWS: [Window; 9] = [
 ];
 
 // The address of a line of a page.
-pub fn line_address(page: u64, line: u64) -> u64 {
+pub(crate) fn line_address(page: u64, line: u64) -> u64 {
     page << 13 | line << 5
 }
 
-pub fn is_hidden_line(line: u64) -> bool {
+pub(crate) fn is_hidden_line(line: u64) -> bool {
     HIDDEN.contains(&(line / PAGE_LINES))
 }
 
-pub fn is_hidden(address: u64) -> bool {
+pub(crate) fn is_hidden(address: u64) -> bool {
     is_hidden_line(address / 32)
 }
 
@@ -146,7 +146,7 @@ pub enum Side {
 
 impl Side {
     // What a hidden line holds on this side, made of the same bytes for both: no byte is the same in the two.
-    pub fn hidden_bytes(self, bytes: [u8; 32]) -> [u8; 32] {
+    pub(crate) fn hidden_bytes(self, bytes: [u8; 32]) -> [u8; 32] {
         match self {
             Side::Left => bytes,
             Side::Right => bytes.map(|byte| !byte),

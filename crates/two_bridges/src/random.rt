@@ -8,7 +8,7 @@ pub struct Random {
 
 impl Random {
     // From a seed that is not 0, no state is ever 0.
-    pub fn new(seed: u64) -> Random {
+    pub(crate) fn new(seed: u64) -> Random {
         Random { state: seed }
     }
 
@@ -20,7 +20,7 @@ impl Random {
         self.state
     }
 
-    pub fn below(&mut self, bound: u64) -> u64
+    pub(crate) fn below(&mut self, bound: u64) -> u64
         requires { 0 < bound }
         ensures { result < bound }
     {
@@ -28,27 +28,27 @@ impl Random {
     }
 
     // One time in `times`.
-    pub fn once_in(&mut self, times: u64) -> bool
+    pub(crate) fn once_in(&mut self, times: u64) -> bool
         requires { 0 < times }
     {
         self.below(times) == 0
     }
 
-    pub fn pick<T: Copy>(&mut self, choices: &[T]) -> T
+    pub(crate) fn pick<T: Copy>(&mut self, choices: &[T]) -> T
         requires { 0 < length choices.now }
     {
         choices[self.below(choices.len() as u64) as usize]
     }
 
-    pub fn word(&mut self) -> u32 {
+    pub(crate) fn word(&mut self) -> u32 {
         (self.next() >> 32) as u32
     }
 
-    pub fn byte(&mut self) -> u8 {
+    pub(crate) fn byte(&mut self) -> u8 {
         (self.next() >> 56) as u8
     }
 
-    pub fn line(&mut self) -> [u8; 32] {
+    pub(crate) fn line(&mut self) -> [u8; 32] {
         let mut bytes = [0; 32];
         for byte in bytes.iter_mut() {
             *byte = self.byte();

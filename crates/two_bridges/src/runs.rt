@@ -27,7 +27,7 @@ fn check_hidden<M: Memory>(
 }
 
 // Runs the list on two bridges, prints what was done, and fails where anything differs.
-pub fn run_same<L: Memory + Drop, R: Memory + Drop>(
+pub(crate) fn run_same<L: Memory + Drop, R: Memory + Drop>(
     rt: &(impl Print + AllocGlobal),
     left: L,
     right: R,
@@ -69,7 +69,7 @@ fn with_slip(heap: Global, side: Side) -> Result<Vec<Step>, AllocError> {
 }
 
 // Runs the list behind that store, and prints the first difference, which a card must see.
-pub fn run_with_slip(rt: &(impl Print + AllocGlobal)) -> Result<()> {
+pub(crate) fn run_with_slip(rt: &(impl Print + AllocGlobal)) -> Result<()> {
     let heap = rt.alloc();
     let mut pair = Pair::new(
         memories::flat(heap)?,
