@@ -1,14 +1,14 @@
 -- Lists of marks: what the search for one finds, one more, one less.
-use Rattle.std.proofs.Common.{◌≡◌, ◌≢◌, ℕ, zero, suc, ◌<◌, Bool, true, false, not, ◌&&◌, ◌||◌, eqb, get_or, List, [], ◌∷◌, ◌++◌, length, is_some, Some, None, Option, sym, refl, ap, ◌∙◌, ⊎_elim, arith}
+use Rattle.std.proofs.Common.{◌≡◌, ◌≢◌, ℕ, zero, suc, ◌<◌, ◌%◌, Bool, set, true, false, not, ◌&&◌, ◌||◌, eqb, get_or, List, [], ◌∷◌, ◌++◌, length, is_some, Some, None, Option, sym, refl, ap, ◌∙◌, ⊎_elim, arith}
 use Rattle.std.specs.List.{remove}
+use Rattle.std.proofs.lemmas.List.{get_or-set_other, get_or-set_same}
 use Rattle.std.proofs.lemmas.Bool.{and_parts, cases_eq, cond-true, cond-false, cases_Bool, false≢true, eq-eqb, eqb-true, ne_eqb}
 use Rattle.std.proofs.lemmas.Bool.Decides.{nat_tests}
 use Rattle.std.proofs.lemmas.List.Folds.{list_any-append, list_any_at}
 use Rattle.std.proofs.lemmas.List.Quantifiers.{all_pairs_push}
 use Rattle.std.proofs.lemmas.List.Recursion.{or_from_places}
 use Rattle.memory.specs.declared.marks.Mark.{Mark}
-use Rattle.memory.specs.Content.{Lines, is_present}
-use Rattle.memory.specs.Marked.{AllPresent, Distinct, marked, without}
+use Rattle.memory.specs.Marked.{AllHinted, Distinct, marked, without}
 use Rattle.memory.specs.Rows.{Finds}
 
 abbrev At : ℕ → Mark → Bool
@@ -67,13 +67,31 @@ unmarked (x ∷ marks) line d k =
     ∙ head_stays x.line k line (marked marks k) t)
     (cases_Bool (eqb x.line line))
 
--- each marked line is there, also after one more that is there, and after one less
-pub present_push : (marks : List Mark) (m : Mark) (lines : Lines) → AllPresent marks lines → is_present (lines m.line) ≡ true → AllPresent (marks ++ m ∷ []) lines
-present_push marks m lines h p line t =
+-- what holds of each marked line also holds after one more of which it holds, and after one less
+pub each_push : (marks : List Mark) (m : Mark) (p : ℕ → Bool) → ((k : ℕ) → marked marks k ≡ true → p k ≡ true) → p m.line ≡ true → (k : ℕ) → marked (marks ++ m ∷ []) k ≡ true → p k ≡ true
+each_push marks m p h here k t =
     ⊎_elim
-    (λ s. ap (λ k. is_present (lines k)) (sym s) ∙ p)
-    (λ ne. h line (sym (ap (λ b. b || marked marks line) (ne_eqb m.line line ne)) ∙ sym (marked_push marks m line) ∙ t))
-    (cases_eq m.line line)
+    (λ s. ap p (sym s) ∙ here)
+    (λ ne. h k (sym (ap (λ b. b || marked marks k) (ne_eqb m.line k ne)) ∙ sym (marked_push marks m k) ∙ t))
+    (cases_eq m.line k)
 
-pub present_without : (marks : List Mark) (line : ℕ) (lines : Lines) → Distinct marks → AllPresent marks lines → AllPresent (without marks line) lines
-present_without marks line lines d h k t = h k (and_parts (marked marks k) _ (sym (unmarked marks line d k) ∙ t)).0
+pub each_without : (marks : List Mark) (line : ℕ) (p : ℕ → Bool) → Distinct marks → ((k : ℕ) → marked marks k ≡ true → p k ≡ true) → (k : ℕ) → marked (without marks line) k ≡ true → p k ≡ true
+each_without marks line p d h k t = h k (and_parts (marked marks k) _ (sym (unmarked marks line d k) ∙ t)).0
+
+-- hints that were given stay
+still_hinted : (hints : List Bool) (i j : ℕ) → i < length hints → get_or hints j false ≡ true → get_or (set hints i true) j false ≡ true
+still_hinted hints i j l t =
+    ⊎_elim
+    (λ s. ap (λ k. get_or (set hints i true) k false) s ∙ get_or-set_same hints i true false l)
+    (λ ne. get_or-set_other hints i j true false ne ∙ t)
+    (cases_eq j i)
+
+pub hinted_push : (marks : List Mark) (m : Mark) (hints : List Bool) → m.line % 256 < length hints → AllHinted marks hints → AllHinted (marks ++ m ∷ []) (set hints (m.line % 256) true)
+hinted_push marks m hints l h =
+    each_push marks m (λ k. get_or (set hints (m.line % 256) true) (k % 256) false)
+    (λ k t. still_hinted hints (m.line % 256) (k % 256) l (h k t))
+    (get_or-set_same hints (m.line % 256) true false l)
+
+-- a line without a hint is not marked
+pub unhinted : (marks : List Mark) (hints : List Bool) (line : ℕ) → AllHinted marks hints → get_or hints (line % 256) false ≡ false → false ≡ marked marks line
+unhinted marks hints line h none = ⊎_elim (λ t. absurd (false≢true (sym none ∙ h line t))) sym (cases_Bool (marked marks line))

@@ -2,7 +2,7 @@
 ghost use Rattle.std.specs.Prelude.{◌≡◌, ◌≤◌, [], IfOk, vec_len, vec_capacity, ◌==◌};
 ghost use Rattle.memory.specs.Answers.{answered, no_values};
 ghost use Rattle.memory.specs.Content.{write_answer, written};
-ghost use Rattle.memory.specs.Marked.{AllPresent, Distinct, NeverSpoiled, lines_marked, mark_answer, mark_answer_of_lines, mark_cause, marked, marks_written, with_mark, without};
+ghost use Rattle.memory.specs.Marked.{AllHinted, AllPresent, Distinct, NeverSpoiled, lines_marked, mark_answer, mark_answer_of_lines, mark_cause, marked, marks_written, with_mark, without};
 ghost use Rattle.std.proofs.Common.{rules};
 
 use crate::refusals::Refusal;
@@ -51,10 +51,13 @@ impl Refusal for MarkRefusal {
 pub struct Marks<M: Memory> {
     below: M,
     marks: Vec<Mark>,
+    // By the low eight bits of a line, whether a marked line may have them: most lines are told unmarked without a search.
+    hints: [bool; 256],
     ghost room: { 32 ≤ vec_capacity marks },
     ghost few: { vec_len marks ≤ 32 },
     ghost apart: { Distinct marks.items },
     ghost there: { AllPresent marks.items (M.Memory.content below) },
+    ghost hinted: { AllHinted marks.items hints },
 }
 
 impl<M: Memory> Marks<M> {
@@ -68,13 +71,18 @@ impl<M: Memory> Marks<M> {
         ensures content { IfOk result (λ m. lines_under M.Memory.content m ≡ M.Memory.content below) }
     {
         let marks = Vec::with_capacity(heap, MOST)?;
-        Ok(Marks { below, marks })
+        let hints = [false; 256];
+        Ok(Marks {
+            below,
+            marks,
+            hints,
+        })
     }
 
     fn is_marked(&self, line: u64) -> bool
         ensures { result ≡ marked (marks_of self.now) line }
     {
-        find(&self.marks, line).is_some()
+        self.hints[(line % 256) as usize] && find(&self.marks, line).is_some()
     }
 
     // Removes the mark of a line, if it has one.
@@ -105,6 +113,7 @@ impl<M: Memory> Marks<M> {
             return Err(MarkRefusal::Full);
         }
         self.marks.push_reserved(Mark { line });
+        self.hints[(line % 256) as usize] = true;
         Ok(())
     }
 }
@@ -124,7 +133,7 @@ impl<M: Memory> Memory for Marks<M> {
 
     #[inline(always)]
     fn read(&self, line: u64, place: &mut [u8; 32]) -> Result<(), MemoryFault> {
-        if self.is_marked(line) && self.below.present(line) {
+        if self.is_marked(line) {
             return Err(MemoryFault::Spoiled(line));
         }
         self.below.read(line, place)

@@ -1,8 +1,8 @@
-use Rattle.std.proofs.Common.{rules, ◌≡◌, [], sym, ◌∙◌}
+use Rattle.std.proofs.Common.{rules, arith, ◌≡◌, [], sym, ◌∙◌}
 use Rattle.memory.specs.Answers.{refusal, success}
 use Rattle.memory.specs.Marked.{mark_answer}
 use Rattle.memory.proofs.MarkCounts.{answer_of_lines}
-use Rattle.memory.proofs.MarkLists.{distinct_push, present_push}
+use Rattle.memory.proofs.MarkLists.{distinct_push, each_push, hinted_push}
 use Rattle.memory.proofs.MarkedLines.{mark_after}
 use Rattle.memory.proofs.marks.Marks.mark.Goals as goal
 
@@ -14,7 +14,11 @@ invariant_of-self-clause-apart g c =
 pub invariant_of-self-clause-there : goal.invariant_of-self-clause-there
 invariant_of-self-clause-there g c =
     rw c.push_reserved.ensures.items
-    (present_push _ (record { line = c.args.line }) _ c.args.self.now.there (sym c.if-not-present.ensures))
+    (each_push _ (record { line = c.args.line }) _ c.args.self.now.there (sym c.if-not-present.ensures))
+
+pub invariant_of-self-clause-hinted : goal.invariant_of-self-clause-hinted
+invariant_of-self-clause-hinted g c =
+    rw c.push_reserved.ensures.items (hinted_push _ (record { line = c.args.line }) _ (omega arith) c.args.self.now.hinted)
 
 pub returns-clause-after : goal.returns-clause-after
 returns-clause-after g c =

@@ -1,6 +1,6 @@
 use Rattle.std.proofs.Common.{◌<◌, ◌≢◌, ◌∙◌, length, arith}
 use Rattle.std.proofs.lemmas.List.Quantifiers.{all_pairs_remove}
-use Rattle.memory.proofs.MarkLists.{present_without, removed_is, without_none}
+use Rattle.memory.proofs.MarkLists.{each_without, removed_is, without_none}
 use Rattle.memory.proofs.marks.Marks.unmark.Goals as goal
 
 pub invariant_of-self-clause-apart : goal.invariant_of-self-clause-apart
@@ -11,7 +11,12 @@ invariant_of-self-clause-apart g c =
 pub invariant_of-self-clause-there : goal.invariant_of-self-clause-there
 invariant_of-self-clause-there g c =
     rw (c.remove.ensures.items ∙ removed_is _ c.in-Some.i c.args.line (simp c.deref.ensures.value at c.in-Some.ensures))
-    (present_without _ c.args.line _ c.args.self.now.apart c.args.self.now.there)
+    (each_without _ c.args.line _ c.args.self.now.apart c.args.self.now.there)
+
+pub invariant_of-self-clause-hinted : goal.invariant_of-self-clause-hinted
+invariant_of-self-clause-hinted g c =
+    rw (c.remove.ensures.items ∙ removed_is _ c.in-Some.i c.args.line (simp c.deref.ensures.value at c.in-Some.ensures))
+    (each_without _ c.args.line _ c.args.self.now.apart c.args.self.now.hinted)
 
 pub returns-in-Some-clause-marks : goal.returns-in-Some-clause-marks
 returns-in-Some-clause-marks g c =
