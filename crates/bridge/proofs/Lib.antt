@@ -4,6 +4,8 @@ pub mod LaneFacts
 pub mod LineBytes
 pub mod BurstRuns
 pub mod ReadBursts
+pub mod WholeLines
+pub mod PageReads
 pub mod WriteBursts
 pub mod Reach
 pub mod PieceSteps

@@ -5,7 +5,7 @@ use Rattle.std.proofs.lemmas.List.{append_assoc, append-nil, drop-drop, length-d
 use Rattle.std.proofs.lemmas.Slice.{take-put_mid, drop-put_mid}
 use Rattle.std.proofs.lemmas.Bool.{cond-false, cond-true, ne_eqb}
 use Rattle.std.specs.List.{AllByRecursion}
-use Rattle.std.specs.Result.{IsErrAnd, MatchResult, OnErr}
+use Rattle.std.specs.Result.{IfOk, IsErrAnd, MatchResult, OnErr}
 use Rattle.memory.specs.Answers.{Answer, refusal}
 use Rattle.bridge.specs.declared.bursts.BurstRefusal.{BurstRefusal}
 use Rattle.bridge.specs.declared.bursts.BurstRefusal.TheVariants.{Ended, Unclaimed}
@@ -18,14 +18,14 @@ use Rattle.bridge.specs.BurstAnswers.{read_answered}
 use Rattle.bridge.specs.Bursts.{Piece, card_read, in_line, is_unclaimed, piece_to_read, pieces, reading, third_check}
 use Rattle.bridge.specs.Calls.{burst_outcome, read_outcome}
 use Rattle.bridge.specs.Faults.{fault_line, fault_number}
-use Rattle.bridge.specs.Pieces.{PieceReply, after_piece, no_window, outcome_by_read, outcome_claimed, read_ended, words_dismissed, words_moved, words_stored}
+use Rattle.bridge.specs.Pieces.{PieceReply, after_piece, ended_read, no_window, outcome_by_read, outcome_claimed, read_ended, words_dismissed, words_moved, words_stored}
 use Rattle.bridge.specs.Runs.{all_moved, answer_of_read, buffer_filled, run}
 use Rattle.bridge.specs.State.{State}
 use Rattle.bridge.specs.Windows.{claim}
 use Rattle.bridge.proofs.BurstRuns.{GoesOn, Progress, finish, first_held, held_outcome, piece_at, start, step, stop, stop_unheld, stopped, unheld_outcome}
 
 -- replies in a row
-moved_append : (a b : List PieceReply) → all_moved (a ++ b) ≡ all_moved a ++ all_moved b
+pub moved_append : (a b : List PieceReply) → all_moved (a ++ b) ≡ all_moved a ++ all_moved b
 moved_append [] b = refl
 moved_append (words_moved words ∷ a) b = ap (λ l. words ++ l) (moved_append a b) ∙ sym (append_assoc words (all_moved a) (all_moved b))
 moved_append (read_ended pci fault ∷ a) b = moved_append a b
@@ -54,8 +54,15 @@ put_back : (done n : ℕ) (b words : List ℕ) → words ≡ part done n b → p
 put_back done n b words e = rw (e, take-append-drop (done + n - done) (drop done b), take-append-drop done b)
 
 -- the buffer holds what was read, then what it held
-filled_so_far : (done : ℕ) (b₀ b : List ℕ) → drop done b ≡ drop done b₀ → done ≤ length b → buffer_filled (take done b) b₀ ≡ b
+pub filled_so_far : (done : ℕ) (b₀ b : List ℕ) → drop done b ≡ drop done b₀ → done ≤ length b → buffer_filled (take done b) b₀ ≡ b
 filled_so_far done b₀ b e h = rw (length-take-le done b h, ← e, take-append-drop done b)
+
+-- what is said of the address that a piece leads to, where the loop goes on with it
+pub of_address : (at : BurstFault → BurstRefusal ReadEnd) (r : Result ℕ BurstFault) (y : Result ℕ (BurstRefusal ReadEnd)) (address : ℕ) → MatchResult r (λ a. y ≡ Ok a) (λ fault. IsErrAnd y (λ x. x ≡ at fault)) → y ≡ Ok address
+    → (P : ℕ → Type 0) → IfOk r P → P address
+of_address at (Ok place) y address a e P h = let same : place ≡ address = cc in subst P same h
+of_address at (Err fault) (Ok place) address a e P h = absurd a
+of_address at (Err fault) (Err x) address a e P h = absurd (let z : ◌≡◌ {A = ℕ} 0 1 = cc in omega arith)
 
 pub record Reading (s₀ : State) (pci count : ℕ) (b₀ : List ℕ) (s : State) (b : List ℕ) (moved : ℕ) : Type 0 where
   pub rest : drop moved b ≡ drop moved b₀
@@ -139,19 +146,19 @@ module _ (s₀ : State) (pci count : ℕ) (b₀ : List ℕ) (s : State) (b : Lis
         (stop s₀ pci count reading s moved i.replies i.progress n some near number mapped held _ (at_n (Err fault) h) refl)))
 
     -- the same for the answer that the loop makes of the piece's
-    abbrev pub AnswerOf : Result Unit BurstFault → Result Unit (BurstRefusal ReadEnd) → Type 0
-    AnswerOf r y = MatchResult r (λ done. y ≡ Ok done) (λ fault. IsErrAnd y (λ x. x ≡ Ended (Fault moved (pci + 4 * moved) fault)))
+    abbrev pub AnswerOf : Result ℕ BurstFault → Result ℕ (BurstRefusal ReadEnd) → Type 0
+    AnswerOf r y = MatchResult r (λ address. y ≡ Ok address) (λ fault. IsErrAnd y (λ x. x ≡ Ended (Fault moved (pci + 4 * moved) fault)))
 
-    pub answer_goes_on : (r : Result Unit BurstFault) (y : Result Unit (BurstRefusal ReadEnd)) → AnswerOf r y → y ≡ Ok tt → served r → length words ≡ length (part moved n b)
+    pub answer_goes_on : (r : Result ℕ BurstFault) (y : Result ℕ (BurstRefusal ReadEnd)) (address : ℕ) → AnswerOf r y → y ≡ Ok address → served (ended_read r) → length words ≡ length (part moved n b)
         → Reading s₀ pci count b₀ t (put_mid moved (moved + n - moved) b words) (moved + n)
-    answer_goes_on (Ok done) y a e h w = go_on h w
-    answer_goes_on (Err fault) (Ok done) a e h w = absurd a
-    answer_goes_on (Err fault) (Err x) a e h w = absurd (let z : ◌≡◌ {A = ℕ} 0 1 = cc in omega arith)
+    answer_goes_on (Ok place) y address a e h w = go_on h w
+    answer_goes_on (Err fault) (Ok place) address a e h w = absurd a
+    answer_goes_on (Err fault) (Err x) address a e h w = absurd (let z : ◌≡◌ {A = ℕ} 0 1 = cc in omega arith)
 
-    pub answer_ends : (r : Result Unit BurstFault) (y : Result Unit (BurstRefusal ReadEnd)) → AnswerOf r y → (x : BurstRefusal ReadEnd) → y ≡ Err x → served r → OnErr r (words ≡ part moved n b)
+    pub answer_ends : (r : Result ℕ BurstFault) (y : Result ℕ (BurstRefusal ReadEnd)) → AnswerOf r y → (x : BurstRefusal ReadEnd) → y ≡ Err x → served (ended_read r) → OnErr r (words ≡ part moved n b)
         → goal t (put_mid moved (moved + n - moved) b words) (Err x)
-    answer_ends (Ok done) y a x e h w = absurd (let z : ◌≡◌ {A = ℕ} 0 1 = cc in omega arith)
-    answer_ends (Err fault) (Ok done) a x e h w = absurd a
+    answer_ends (Ok place) y a x e h w = absurd (let z : ◌≡◌ {A = ℕ} 0 1 = cc in omega arith)
+    answer_ends (Err fault) (Ok place) a x e h w = absurd a
     answer_ends (Err fault) (Err z) a x e h w =
         let same : x ≡ Ended (Fault moved (pci + 4 * moved) fault) = let f : z ≡ x = cc in sym f ∙ a in
         subst (λ k. goal t (put_mid moved (moved + n - moved) b words) (Err k)) (sym same) (faulted fault h w)

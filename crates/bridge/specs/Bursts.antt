@@ -79,6 +79,10 @@ piece_to_write pci words enables = record { pci = pci; count = length words; job
 abbrev pub in_line : ℕ → ℕ → ℕ
 in_line pci left = min left (8 - bits 4 2 pci)
 
+-- how many of them lie before the next multiple of 2^13
+abbrev pub in_page : ℕ → ℕ → ℕ
+in_page pci left = min left (2048 - bits 12 2 pci)
+
 -- `left` longwords cut at the PCI multiples of 32; each piece has one at least, so as many turns as longwords suffice
 abbrev pub cut : ℕ → ℕ → ℕ → Job → List Piece
 cut zero pci left job = []

@@ -1,7 +1,8 @@
 -- Longwords in a line: what a read takes out of its bytes, and what a write puts there, under which mask.
-use Rattle.std.specs.Prelude.{ℕ, ◌+◌, ◌-◌, ◌*◌, ◌/◌, ◌%◌, ◌^◌, cond, List, [], ◌∷◌, map, take, drop, nat_lt, slice_index}
+use Rattle.std.specs.Prelude.{ℕ, zero, suc, ◌+◌, ◌-◌, ◌*◌, ◌/◌, ◌%◌, ◌^◌, cond, List, [], ◌∷◌, ◌++◌, map, take, drop, nat_lt, slice_index}
 use Rattle.std.specs.List.{range_with_len}
 use Rattle.memory.specs.Bytes.{joined}
+use Rattle.memory.specs.Content.{Content, Lines, absent, spoiled, good}
 
 -- the longword and the quadword at an offset of some bytes, and `count` longwords from an offset on
 abbrev pub longword_at : List ℕ → ℕ → ℕ
@@ -12,6 +13,16 @@ quadword_at bytes offset = joined (take 8 (drop offset bytes))
 
 abbrev pub longwords : ℕ → ℕ → List ℕ → List ℕ
 longwords count offset bytes = map (λ k. longword_at bytes (offset + 4 * k)) (range_with_len 0 count)
+
+-- all longwords of `count` lines from a line on, up to the first one that is not good
+abbrev pub line_before : Content → List ℕ → List ℕ
+line_before absent later = []
+line_before spoiled later = []
+line_before (good bytes) later = longwords 8 0 bytes ++ later
+
+abbrev pub whole_lines : ℕ → ℕ → Lines → List ℕ
+whole_lines zero line lines = []
+whole_lines (suc count) line lines = line_before (lines line) (whole_lines count (line + 1) lines)
 
 -- the four bytes of a longword, low end first
 abbrev pub word_bytes : ℕ → List ℕ

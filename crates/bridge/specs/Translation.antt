@@ -47,6 +47,10 @@ pub record Located : Type 0 where
   pub look_aside : LookAside
   pub place : Place
 
+-- a physical address, with the rows as they were
+abbrev pub reached : LookAside → ℕ → Located
+reached t address = record { look_aside = t; place = target address }
+
 -- a valid entry fills a row; an entry at fault leaves the rows
 abbrev pub located_by_entry : LookAside → ℕ → Result ℕ WalkFault → Located
 located_by_entry t pci (Ok page) = record { look_aside = filled t (pci_page pci) page; place = target (page_address page pci) }

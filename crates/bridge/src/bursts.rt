@@ -1,7 +1,7 @@
 // What card bursts answer, and their checks.
 ghost use Rattle.std.specs.Prelude.{◌≡◌, ◌+◌, ◌^◌, ◌<◌, if◌then◌else◌, nat_lt};
 ghost use Rattle.bridge.specs.BurstAnswers.{burst_cause, read_end_cause, tallied, write_end_cause};
-ghost use Rattle.bridge.specs.Bursts.{in_line, wrong_count};
+ghost use Rattle.bridge.specs.Bursts.{in_line, in_page, wrong_count};
 
 use crate::faults::BurstFault;
 use memory::refusals::Refusal;
@@ -95,6 +95,13 @@ pub(crate) fn in_line(pci: u32, left: usize) -> usize
     ensures { result ≡ in_line pci left }
 {
     left.min(8 - (pci / 4 % 8) as usize)
+}
+
+// How many of `left` longwords from a PCI address on lie in its page.
+pub(crate) fn in_page(pci: u32, left: usize) -> usize
+    ensures { result ≡ in_page pci left }
+{
+    left.min(2048 - (pci / 4 % 2048) as usize)
 }
 
 // The refusal where no window holds a longword: the first one of a burst fails the third check, a later one ends it.

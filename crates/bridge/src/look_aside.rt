@@ -1,5 +1,5 @@
 // The look-aside rows: table entries that were read before.
-ghost use Rattle.std.specs.Prelude.{◌≡◌, ◌<◌};
+ghost use Rattle.std.specs.Prelude.{◌≡◌, ◌<◌, Some, None};
 
 use memory::rows::{Row, find};
 
@@ -72,9 +72,11 @@ impl LookAside {
         self.row(i).map(|row| row.page)
     }
 
-    // Fills the row under the pointer, and moves the pointer on. The other seven rows stay.
+    // Fills the row under the pointer for a PCI page that no row answers for, and moves the pointer on. The other seven rows stay.
     pub(crate) fn fill(&mut self, pci_page: u32, page: u32)
-        ensures { self.new ≡ filled self.old pci_page page }
+        requires { cached_page self.old pci_page ≡ None }
+        ensures after { self.new ≡ filled self.old pci_page page }
+        ensures found { cached_page self.new pci_page ≡ Some page }
     {
         self.rows[self.pointer] = Some(LookAsideRow { pci_page, page });
         self.pointer = (self.pointer + 1) % 8;

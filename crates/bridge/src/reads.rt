@@ -1,15 +1,19 @@
 // Card reads.
-ghost use Rattle.std.specs.Prelude.{◌≡◌, ◌+◌, ◌*◌, ◌%◌, ◌^◌, ◌<◌, ◌≤◌, length, OnErr};
+ghost use Rattle.std.specs.Prelude.{◌≡◌, ◌+◌, ◌*◌, ◌/◌, ◌%◌, ◌^◌, ◌<◌, ◌≤◌, length, IfOk, OnErr};
 ghost use Rattle.bridge.specs.Bits.{bits};
 ghost use Rattle.bridge.specs.BurstAnswers.{read_answered};
 ghost use Rattle.bridge.specs.Bursts.{card_read, piece_to_read, third_check};
 ghost use Rattle.bridge.specs.Calls.{burst_outcome, card, performed, read_outcome};
-ghost use Rattle.bridge.specs.Longwords.{longwords};
-ghost use Rattle.bridge.specs.Pieces.{after_piece, outcome_by_read, outcome_claimed};
+ghost use Rattle.bridge.specs.Longwords.{longwords, whole_lines};
+ghost use Rattle.bridge.specs.Pieces.{after_piece, ended_read, outcome_by_read, outcome_claimed};
+ghost use Rattle.bridge.specs.Runs.{buffer_filled};
 ghost use Rattle.bridge.specs.State.{state_of, with_rows};
+ghost use Rattle.bridge.specs.Translation.{located_claimed, reached};
 
 use crate::Bridge;
-use crate::bursts::{BurstRefusal, ReadEnd, ReadRefusal, count_is_wrong, in_line, no_window};
+use crate::bursts::{
+    BurstRefusal, ReadEnd, ReadRefusal, count_is_wrong, in_line, in_page, no_window,
+};
 use crate::faults::BurstFault;
 use crate::line::{BLANK, longword};
 use crate::log::Direction;
@@ -39,30 +43,53 @@ fn take_longwords(line: &[u8; 32], offset: usize, words: &mut [u32])
 }
 
 impl<M: Memory> Bridge<M> {
-    // Reads longwords that lie in one line, at an address that a window claims. A fault leaves them as they were.
-    fn read_line(&mut self, claimed: Claimed, words: &mut [u32]) -> Result<(), BurstFault>
+    // Reads longwords that lie in one line, at an address that a window claims, and says where that leads. A fault leaves them as
+    // they were.
+    fn read_line(&mut self, claimed: Claimed, words: &mut [u32]) -> Result<u64, BurstFault>
         requires { bits 4 2 claimed.pci + length words.old ≤ 8 }
-        ensures outcome { outcome_by_read self.new.look_aside self.old.log (piece_to_read claimed.pci words.old) words.new result ≡ outcome_claimed (state_of M.Memory.content self.old) (piece_to_read claimed.pci words.old) claimed.number claimed.mapped }
+        ensures outcome { outcome_by_read self.new.look_aside self.old.log (piece_to_read claimed.pci words.old) words.new (ended_read result) ≡ outcome_claimed (state_of M.Memory.content self.old) (piece_to_read claimed.pci words.old) claimed.number claimed.mapped }
         ensures kept { OnErr result (words.new ≡ words.old) }
+        ensures again { IfOk result (λ address. located_claimed (state_of M.Memory.content self.new) claimed.pci claimed.number claimed.mapped ≡ reached self.new.look_aside address) }
+        ensures low { IfOk result (λ address. address % 32 ≡ claimed.pci % 32) }
         ensures after { state_of M.Memory.content self.new ≡ with_rows self.new.look_aside (state_of M.Memory.content self.old) }
     {
         let address = self.translate(claimed)?;
         let mut line = BLANK;
         self.memory.read(address / 32, &mut line)?;
         take_longwords(&line, (address % 32) as usize, words);
-        Ok(())
+        Ok(address)
     }
 
     // Reads a piece of a burst, and logs its fault.
-    fn read_piece(&mut self, claimed: Claimed, words: &mut [u32]) -> Result<(), BurstFault>
+    fn read_piece(&mut self, claimed: Claimed, words: &mut [u32]) -> Result<u64, BurstFault>
         requires { bits 4 2 claimed.pci + length words.old ≤ 8 }
-        ensures outcome { outcome_by_read self.new.look_aside self.old.log (piece_to_read claimed.pci words.old) words.new result ≡ outcome_claimed (state_of M.Memory.content self.old) (piece_to_read claimed.pci words.old) claimed.number claimed.mapped }
+        ensures outcome { outcome_by_read self.new.look_aside self.old.log (piece_to_read claimed.pci words.old) words.new (ended_read result) ≡ outcome_claimed (state_of M.Memory.content self.old) (piece_to_read claimed.pci words.old) claimed.number claimed.mapped }
         ensures kept { OnErr result (words.new ≡ words.old) }
-        ensures after { state_of M.Memory.content self.new ≡ after_piece (state_of M.Memory.content self.old) (outcome_by_read self.new.look_aside self.old.log (piece_to_read claimed.pci words.old) words.new result) }
+        ensures again { IfOk result (λ address. located_claimed (state_of M.Memory.content self.new) claimed.pci claimed.number claimed.mapped ≡ reached self.new.look_aside address) }
+        ensures low { IfOk result (λ address. address % 32 ≡ claimed.pci % 32) }
+        ensures after { state_of M.Memory.content self.new ≡ after_piece (state_of M.Memory.content self.old) (outcome_by_read self.new.look_aside self.old.log (piece_to_read claimed.pci words.old) words.new (ended_read result)) }
     {
         let served = self.read_line(claimed, words);
-        self.log.note_served(Direction::Read, claimed.pci, served);
+        self.log
+            .note_served(Direction::Read, claimed.pci, served.map(|_| ()));
         served
+    }
+
+    // Reads whole lines from one on, as far as they are good, and says how many longwords that were.
+    fn read_whole_lines(&self, first: u64, words: &mut [u32]) -> usize
+        ensures words { words.new ≡ buffer_filled (whole_lines (length words.old / 8) first (M.Memory.content self.now.memory)) words.old }
+        ensures count { result ≡ length (whole_lines (length words.old / 8) first (M.Memory.content self.now.memory)) }
+        ensures bound { result ≤ length words.old }
+    {
+        let mut moved = 0;
+        let mut line = first;
+        let mut bytes = BLANK;
+        while words.len() - moved >= 8 && self.memory.read(line, &mut bytes).is_ok() {
+            take_from(&bytes, 0, &mut words[moved..moved + 8]);
+            moved += 8;
+            line += 1;
+        }
+        moved
     }
 
     // Reads a burst line by line. It ends where no window holds the next longword, and at its first fault.
@@ -75,7 +102,7 @@ impl<M: Memory> Bridge<M> {
         ensures { read_outcome (state_of M.Memory.content self.new) buffer.new result ≡ burst_outcome (state_of M.Memory.content self.old) (card_read pci count buffer.old) (third_check self.old.registers pci) }
     {
         let mut moved = 0;
-        // A turn takes the longwords of a line, of which there are one to eight.
+        // A turn takes the longwords of a line, of which there are one to eight, and whole lines after it.
         while moved < count {
             let here = pci + 4 * moved as u32;
             // 3 or 4 leaves the loop here.
@@ -88,7 +115,8 @@ impl<M: Memory> Bridge<M> {
                 mapped,
                 pci: here,
             };
-            self.read_piece(claimed, &mut buffer[moved..moved + n])
+            let address = self
+                .read_piece(claimed, &mut buffer[moved..moved + n])
                 .map_err(|fault| {
                     BurstRefusal::Ended(ReadEnd::Fault {
                         moved,
@@ -96,7 +124,11 @@ impl<M: Memory> Bridge<M> {
                         fault,
                     })
                 })?;
+            // Claim and translation stay the same in a page, so the whole lines that follow in it are read at once. One that is
+            // not good is left to the next turn.
+            let end = moved + in_page(here, count - moved);
             moved += n;
+            moved += self.read_whole_lines(address / 32 + 1, &mut buffer[moved..end]);
         }
         Ok(())
     }

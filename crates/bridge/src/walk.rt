@@ -1,7 +1,7 @@
 // From a PCI address to a physical one: by a plain window, a look-aside row, or an entry of a table.
 ghost use Rattle.std.specs.Prelude.{◌≡◌, ◌/◌, ◌%◌, IfOk};
 ghost use Rattle.bridge.specs.State.{state_of, with_rows};
-ghost use Rattle.bridge.specs.Translation.{entry_of, located_claimed, page_address, place_by};
+ghost use Rattle.bridge.specs.Translation.{entry_of, located_claimed, page_address, place_by, reached};
 
 use crate::Bridge;
 use crate::faults::WalkFault;
@@ -46,6 +46,7 @@ impl<M: Memory> Bridge<M> {
     pub(crate) fn translate(&mut self, claimed: Claimed) -> Result<u64, WalkFault>
         ensures place { place_by result ≡ (located_claimed (state_of M.Memory.content self.old) claimed.pci claimed.number claimed.mapped).place }
         ensures low { IfOk result (λ address. address % 32 ≡ claimed.pci % 32) }
+        ensures again { IfOk result (λ address. located_claimed (state_of M.Memory.content self.new) claimed.pci claimed.number claimed.mapped ≡ reached self.new.look_aside address) }
         ensures after { state_of M.Memory.content self.new ≡ with_rows (located_claimed (state_of M.Memory.content self.old) claimed.pci claimed.number claimed.mapped).look_aside (state_of M.Memory.content self.old) }
     {
         let window = *self.registers.window(claimed.number);

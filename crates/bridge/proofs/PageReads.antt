@@ -1,0 +1,154 @@
+-- Reading on in a page: the window that claims one longword of it claims all, and they lead on from where that one leads.
+use Rattle.std.proofs.Common.{◌≡◌, ℕ, zero, suc, ◌+◌, ◌-◌, ◌*◌, ◌/◌, ◌%◌, ◌^◌, ◌<◌, ◌≤◌, Bool, true, false, cond, ◌&&◌, eqb, List, [], ◌∷◌, ◌++◌, length, take, drop, Some, None, Ok, Err, Option, Result, sym, refl, ap, ap₂, ◌∙◌, subst, arith}
+use borrow.Rule.Slice.PartMut.{put_mid}
+use lib.Bits.{bit_and, bit_xor}
+use Rattle.std.proofs.lemmas.List.{append_assoc, append-nil, drop-append-le, drop-drop, length-append, length-drop, length-take, take-append-drop}
+use Rattle.std.proofs.lemmas.Slice.{take-put_mid, drop-put_mid}
+use Rattle.memory.specs.Content.{Content, Lines, absent, good, spoiled}
+use Rattle.bridge.specs.declared.faults.WalkFault.{WalkFault}
+use Rattle.bridge.specs.declared.look_aside.LookAside.{LookAside}
+use Rattle.bridge.specs.declared.registers.Registers.{Registers}
+use Rattle.bridge.specs.declared.registers.Window.{Window}
+use Rattle.bridge.specs.Bits.{bits, bits_kept}
+use Rattle.bridge.specs.Bursts.{in_line, in_page, reading}
+use Rattle.bridge.specs.LookAside.{cached_page, filled}
+use Rattle.bridge.specs.Longwords.{line_before, longwords, whole_lines}
+use Rattle.bridge.specs.Pieces.{PieceOutcome, PieceReply, no_edit, outcome_at_content, outcome_claimed, outcome_located, words_moved}
+use Rattle.bridge.specs.Registers.{window}
+use Rattle.bridge.specs.Runs.{all_moved, buffer_filled}
+use Rattle.bridge.specs.State.{State}
+use Rattle.bridge.specs.Translation.{Place, entry_of, located_by_entry, located_by_row, located_by_window, located_claimed, page_address, pci_page, reached, table_fault, target}
+use Rattle.bridge.specs.Windows.{claim, enabled, entry_address, holds, mapped, mixed, plain_address, target_base}
+use Rattle.bridge.proofs.BurstRuns.{Progress, piece_at, step}
+use Rattle.bridge.proofs.ReadBursts.{Reading, moved_append}
+use Rattle.bridge.proofs.WholeLines.{long_line}
+
+-- d bytes on from an address, in the same page
+module _ (pci d : ℕ) (near : pci % 2 ^ 13 + d < 2 ^ 13) where
+  same_top : bits 31 20 (pci + d) ≡ bits 31 20 pci
+  same_top = omega arith
+
+  same_page : bits 31 13 (pci + d) ≡ bits 31 13 pci
+  same_page = omega arith
+
+  same_holds : (w : Window) → holds w (pci + d) ≡ holds w pci
+  same_holds w = ap (λ x. enabled w && eqb (bit_and (bit_xor x (bits 31 20 w.base)) (0xfff - bits 31 20 w.mask)) 0) same_top
+
+  same_claim : (r : Registers) → claim r (pci + d) ≡ claim r pci
+  same_claim r = ap₂ (λ x y. cond x (Some (1, mapped r.first)) (cond y (Some (2, mapped r.second)) None)) (same_holds r.first) (same_holds r.second)
+
+  plain_on : (w : Window) → plain_address w (pci + d) ≡ plain_address w pci + d
+  plain_on w =
+      ap (λ x. bits_kept 32 32 (target_base w) + mixed (bits 31 20 w.mask) x (bits 31 20 (target_base w)) * 2 ^ 20 + bits 19 0 (pci + d)) same_top
+      ∙ omega arith
+
+  page_on : (page : ℕ) → page_address page (pci + d) ≡ page_address page pci + d
+  page_on page = omega arith
+
+  -- a translation that leaves the rows leads on
+  module _ (t : LookAside) (lines : Lines) (address : ℕ) where
+    entry_on : (e : Result ℕ WalkFault) → located_by_entry t pci e ≡ reached t address → ⊥
+    entry_on (Ok page) h = let same : (t.pointer + 1) % 8 ≡ t.pointer = ap (λ l. l.look_aside.pointer) h in omega (arith, t.below)
+    entry_on (Err fault) h = let other : table_fault fault ≡ target address = ap (λ l. l.place) h in cc
+
+    on : (a b : ℕ) → b ≡ a + d → ◌≡◌ {A = Place} (target a) (target address) → reached t b ≡ reached t (address + d)
+    on a b e h = let same : a ≡ address = cc in ap (reached t) (e ∙ ap (λ n. n + d) same)
+
+    row_on : (a b : ℕ) (o : Option ℕ) → located_by_row t lines pci a o ≡ reached t address → located_by_row t lines (pci + d) b o ≡ reached t (address + d)
+    row_on a b (Some page) h = on _ _ (page_on page) (ap (λ l. l.place) h)
+    row_on a b None h = absurd (entry_on (entry_of (lines (a / 32)) a) h)
+
+    window_on : (w : Window) (m : Bool) → located_by_window t lines pci w m ≡ reached t address → located_by_window t lines (pci + d) w m ≡ reached t (address + d)
+    window_on w true h =
+        ap (λ n. located_by_row t lines (pci + d) (entry_address w (pci + d)) (cached_page t n)) same_page
+        ∙ row_on (entry_address w pci) (entry_address w (pci + d)) (cached_page t (pci_page pci)) h
+    window_on w false h = on _ _ (plain_on w) (ap (λ l. l.place) h)
+
+-- lines of a read's burst, from an address that is claimed and led on without a change of the rows
+module _ (s₀ : State) (pci count : ℕ) (s : State) (here number : ℕ) (mapped : Bool) (held : claim s.control.registers here ≡ Some (number, mapped))
+    (address : ℕ) (again : located_claimed s here number mapped ≡ reached s.control.look_aside address) (low : address % 32 ≡ here % 32) where
+  abbrev moves : List ℕ → PieceOutcome
+  moves words = record { look_aside = s.control.look_aside; log = s.control.log; reply = words_moved words; edit = no_edit }
+
+  line_moved : (d line : ℕ) (bytes : List ℕ) → here % 2 ^ 13 + d < 2 ^ 13 → address + d ≡ 32 * line → s.lines line ≡ good bytes
+      → moves (longwords 8 0 bytes) ≡ outcome_claimed s (piece_at (here + d) 8 reading) number mapped
+  line_moved d line bytes near at whole =
+      let p = piece_at (here + d) 8 reading in
+      let led : located_claimed s (here + d) number mapped ≡ reached s.control.look_aside (32 * line) =
+      window_on here d near s.control.look_aside s.lines address (window s.control.registers number) mapped again ∙ ap (reached s.control.look_aside) at in
+      let found : s.lines (32 * line / 32) ≡ good bytes = ap s.lines (omega arith) ∙ whole in
+      let front : 32 * line % 32 ≡ 0 = omega arith in
+      sym (ap (outcome_located s.control.log s.lines p) led
+      ∙ ap (outcome_at_content s.control.look_aside s.control.log p (32 * line) reading) found
+      ∙ ap (λ k. moves (longwords 8 k bytes)) front)
+
+  -- some longwords more are moved, with these replies to all so far
+  record MovedOn (moved : ℕ) (replies : List PieceReply) (words : List ℕ) : Type 0 where
+    pub later : List PieceReply
+    pub all : all_moved later ≡ all_moved replies ++ words
+    pub progress : Progress s₀ pci count reading s (moved + length words) later
+
+  none_more : (moved : ℕ) (replies : List PieceReply) → Progress s₀ pci count reading s moved replies → MovedOn moved replies []
+  none_more moved replies i = record {
+    later = replies;
+    all = sym (append-nil (all_moved replies));
+    progress = let same : moved ≡ moved + 0 = omega arith in subst (λ n. Progress s₀ pci count reading s n replies) same i;
+  }
+
+  -- a line that is good, and what follows it
+  line_on : (d line moved : ℕ) (replies : List PieceReply) → Progress s₀ pci count reading s moved replies → here + d ≡ pci + 4 * moved → here % 2 ^ 13 + d < 2 ^ 13 → moved + 8 ≤ count → address + d ≡ 32 * line
+      → (rest : List ℕ) → ((next : List PieceReply) → Progress s₀ pci count reading s (moved + 8) next → MovedOn (moved + 8) next rest) → (c : Content) → s.lines line ≡ c → MovedOn moved replies (line_before c rest)
+  line_on d line moved replies i at near room led rest on absent e = none_more moved replies i
+  line_on d line moved replies i at near room led rest on spoiled e = none_more moved replies i
+  line_on d line moved replies i at near room led rest on (good bytes) e =
+      let words = longwords 8 0 bytes in
+      let whole : 8 ≡ in_line (pci + 4 * moved) (count - moved) = omega arith in
+      let claimed : claim s.control.registers (pci + 4 * moved) ≡ Some (number, mapped) = ap (claim s.control.registers) (sym at) ∙ same_claim here d near s.control.registers ∙ held in
+      let o : moves words ≡ outcome_claimed s (piece_at (pci + 4 * moved) 8 reading) number mapped =
+      line_moved d line bytes near led e ∙ ap (λ k. outcome_claimed s (piece_at k 8 reading) number mapped) at in
+      let next = on (replies ++ words_moved words ∷ []) (step s₀ pci count reading s moved replies i 8 (omega arith) whole number mapped claimed (moves words) o refl s refl) in
+      let joined : all_moved (replies ++ words_moved words ∷ []) ≡ all_moved replies ++ words = moved_append replies (words_moved words ∷ []) ∙ ap (λ l. all_moved replies ++ l) (append-nil words) in
+      let long : moved + 8 + length rest ≡ moved + length (words ++ rest) = omega (arith, length-append words rest, long_line bytes) in
+      record {
+        later = next.later;
+        all = rw (next.all, joined, append_assoc (all_moved replies) words rest) refl;
+        progress = subst (λ k. Progress s₀ pci count reading s k next.later) long next.progress;
+      }
+
+  lines_on : (n d line moved : ℕ) (replies : List PieceReply) → Progress s₀ pci count reading s moved replies → here + d ≡ pci + 4 * moved → here % 2 ^ 13 + d + 32 * n ≤ 2 ^ 13
+      → moved + 8 * n ≤ count → (0 < n → address + d ≡ 32 * line) → MovedOn moved replies (whole_lines n line s.lines)
+  lines_on zero d line moved replies i at page room led = none_more moved replies i
+  lines_on (suc n) d line moved replies i at page room led =
+      let here_led : address + d ≡ 32 * line = led (omega arith) in
+      line_on d line moved replies i at (omega arith) (omega arith) here_led (whole_lines n (line + 1) s.lines)
+      (λ next j. lines_on n (d + 32) (line + 1) (moved + 8) next j (omega arith) (omega arith) (omega arith) (λ h. omega arith)) (s.lines line) refl
+
+-- a part whose front is filled
+put_front : (a k : ℕ) (b words : List ℕ) → length words ≤ length (take k (drop a b)) → put_mid a k b (buffer_filled words (take k (drop a b))) ≡ put_mid a (length words) b words
+put_front a k b words h =
+    ap (λ l. take a b ++ l)
+    (append_assoc words (drop (length words) (take k (drop a b))) (drop k (drop a b))
+    ∙ ap (λ l. words ++ l) (sym (drop-append-le (length words) (take k (drop a b)) (drop k (drop a b)) h) ∙ ap (drop (length words)) (take-append-drop k (drop a b))))
+
+-- a read whose first longwords of a page are served reads whole lines on
+module _ (s₀ : State) (pci count : ℕ) (b₀ : List ℕ) (s : State) (b : List ℕ) (start n : ℕ) (i : Reading s₀ pci count b₀ s b (start + n)) (room : count ≤ length b) (aligned : pci % 4 ≡ 0) (some : start < count)
+    (near : n ≡ in_line (pci + 4 * start) (count - start)) (number : ℕ) (mapped : Bool) (held : claim s.control.registers (pci + 4 * start) ≡ Some (number, mapped)) where
+  pub read_on : (address : ℕ) → located_claimed s (pci + 4 * start) number mapped ≡ reached s.control.look_aside address → address % 32 ≡ (pci + 4 * start) % 32
+      → (end : ℕ) → end ≡ start + in_page (pci + 4 * start) (count - start) → (lines : ℕ) → lines ≡ length (take (end - (start + n)) (drop (start + n) b)) / 8
+      → (after : List ℕ) → length after ≡ length (take (end - (start + n)) (drop (start + n) b)) → after ≡ buffer_filled (whole_lines lines (address / 32 + 1) s.lines) (take (end - (start + n)) (drop (start + n) b))
+      → (more : ℕ) → more ≡ length (whole_lines lines (address / 32 + 1) s.lines) → Reading s₀ pci count b₀ s (put_mid (start + n) (end - (start + n)) b after) (start + n + more)
+  read_on address again low end page lines turns after kept filled more counted =
+      let words = whole_lines lines (address / 32 + 1) s.lines in
+      let old = take (end - (start + n)) (drop (start + n) b) in
+      let size : length old ≡ end - (start + n) = simp (length-take, length-drop) (omega arith) in
+      let on = lines_on s₀ pci count s (pci + 4 * start) number mapped held address again low lines (4 * n) (address / 32 + 1) (start + n) i.replies i.progress (omega arith) (omega arith) (omega arith) (λ h. omega arith) in
+      let short : length words ≤ length old = omega (arith, ap length filled, length-append words (drop (length words) old), length-drop (length words) old) in
+      let put : put_mid (start + n) (end - (start + n)) b after ≡ put_mid (start + n) (length words) b words = ap (put_mid (start + n) (end - (start + n)) b) filled ∙ put_front (start + n) (end - (start + n)) b words short in
+      record {
+        rest =
+            ap (drop (start + n + more)) put ∙ drop-put_mid (start + n) (length words) b words (start + n + more) (omega arith) (omega (arith, i.progress.within)) refl
+            ∙ sym (drop-drop more (start + n) b) ∙ ap (drop more) i.rest ∙ drop-drop more (start + n) b₀;
+        replies = on.later;
+        words = rw (on.all, i.words, put, take-put_mid (start + n) (length words) b words (start + n + more) (omega arith) (omega (arith, i.progress.within))) refl;
+        progress = let same : start + n + length words ≡ start + n + more = omega arith in subst (λ k. Progress s₀ pci count reading s k on.later) same on.progress;
+      }
