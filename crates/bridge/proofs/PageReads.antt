@@ -12,7 +12,7 @@ use Rattle.bridge.specs.declared.registers.Window.{Window}
 use Rattle.bridge.specs.Bits.{bits, bits_kept}
 use Rattle.bridge.specs.Bursts.{in_line, in_page, reading}
 use Rattle.bridge.specs.LookAside.{cached_page, filled}
-use Rattle.bridge.specs.Longwords.{line_before, longwords, whole_lines}
+use Rattle.bridge.specs.Longwords.{line_then, longwords, whole_lines}
 use Rattle.bridge.specs.Pieces.{PieceOutcome, PieceReply, no_edit, outcome_at_content, outcome_claimed, outcome_located, words_moved}
 use Rattle.bridge.specs.Registers.{window}
 use Rattle.bridge.specs.Runs.{all_moved, buffer_filled}
@@ -51,20 +51,20 @@ module _ (pci d : ℕ) (near : pci % 2 ^ 13 + d < 2 ^ 13) where
     entry_on (Ok page) h = let same : (t.pointer + 1) % 8 ≡ t.pointer = ap (λ l. l.look_aside.pointer) h in omega (arith, t.below)
     entry_on (Err fault) h = let other : table_fault fault ≡ target address = ap (λ l. l.place) h in cc
 
-    on : (a b : ℕ) → b ≡ a + d → ◌≡◌ {A = Place} (target a) (target address) → reached t b ≡ reached t (address + d)
-    on a b e h = let same : a ≡ address = cc in ap (reached t) (e ∙ ap (λ n. n + d) same)
+    led_on : (a b : ℕ) → b ≡ a + d → ◌≡◌ {A = Place} (target a) (target address) → reached t b ≡ reached t (address + d)
+    led_on a b e h = let same : a ≡ address = cc in ap (reached t) (e ∙ ap (λ n. n + d) same)
 
     row_on : (a b : ℕ) (o : Option ℕ) → located_by_row t lines pci a o ≡ reached t address → located_by_row t lines (pci + d) b o ≡ reached t (address + d)
-    row_on a b (Some page) h = on _ _ (page_on page) (ap (λ l. l.place) h)
+    row_on a b (Some page) h = led_on _ _ (page_on page) (ap (λ l. l.place) h)
     row_on a b None h = absurd (entry_on (entry_of (lines (a / 32)) a) h)
 
     window_on : (w : Window) (m : Bool) → located_by_window t lines pci w m ≡ reached t address → located_by_window t lines (pci + d) w m ≡ reached t (address + d)
     window_on w true h =
         ap (λ n. located_by_row t lines (pci + d) (entry_address w (pci + d)) (cached_page t n)) same_page
         ∙ row_on (entry_address w pci) (entry_address w (pci + d)) (cached_page t (pci_page pci)) h
-    window_on w false h = on _ _ (plain_on w) (ap (λ l. l.place) h)
+    window_on w false h = led_on _ _ (plain_on w) (ap (λ l. l.place) h)
 
--- lines of a read's burst, from an address that is claimed and led on without a change of the rows
+-- whole lines of a read, after an address that leads to a physical one and leaves the rows
 module _ (s₀ : State) (pci count : ℕ) (s : State) (here number : ℕ) (mapped : Bool) (held : claim s.control.registers here ≡ Some (number, mapped))
     (address : ℕ) (again : located_claimed s here number mapped ≡ reached s.control.look_aside address) (low : address % 32 ≡ here % 32) where
   abbrev moves : List ℕ → PieceOutcome
@@ -97,7 +97,7 @@ module _ (s₀ : State) (pci count : ℕ) (s : State) (here number : ℕ) (mappe
 
   -- a line that is good, and what follows it
   line_on : (d line moved : ℕ) (replies : List PieceReply) → Progress s₀ pci count reading s moved replies → here + d ≡ pci + 4 * moved → here % 2 ^ 13 + d < 2 ^ 13 → moved + 8 ≤ count → address + d ≡ 32 * line
-      → (rest : List ℕ) → ((next : List PieceReply) → Progress s₀ pci count reading s (moved + 8) next → MovedOn (moved + 8) next rest) → (c : Content) → s.lines line ≡ c → MovedOn moved replies (line_before c rest)
+      → (rest : List ℕ) → ((next : List PieceReply) → Progress s₀ pci count reading s (moved + 8) next → MovedOn (moved + 8) next rest) → (c : Content) → s.lines line ≡ c → MovedOn moved replies (line_then c rest)
   line_on d line moved replies i at near room led rest on absent e = none_more moved replies i
   line_on d line moved replies i at near room led rest on spoiled e = none_more moved replies i
   line_on d line moved replies i at near room led rest on (good bytes) e =
@@ -130,7 +130,7 @@ put_front a k b words h =
     (append_assoc words (drop (length words) (take k (drop a b))) (drop k (drop a b))
     ∙ ap (λ l. words ++ l) (sym (drop-append-le (length words) (take k (drop a b)) (drop k (drop a b)) h) ∙ ap (drop (length words)) (take-append-drop k (drop a b))))
 
--- a read whose first longwords of a page are served reads whole lines on
+-- a piece was read, and then the whole lines that follow in its page
 module _ (s₀ : State) (pci count : ℕ) (b₀ : List ℕ) (s : State) (b : List ℕ) (start n : ℕ) (i : Reading s₀ pci count b₀ s b (start + n)) (room : count ≤ length b) (aligned : pci % 4 ≡ 0) (some : start < count)
     (near : n ≡ in_line (pci + 4 * start) (count - start)) (number : ℕ) (mapped : Bool) (held : claim s.control.registers (pci + 4 * start) ≡ Some (number, mapped)) where
   pub read_on : (address : ℕ) → located_claimed s (pci + 4 * start) number mapped ≡ reached s.control.look_aside address → address % 32 ≡ (pci + 4 * start) % 32

@@ -18,7 +18,7 @@ use Rattle.bridge.specs.BurstAnswers.{read_answered}
 use Rattle.bridge.specs.Bursts.{Piece, card_read, in_line, is_unclaimed, piece_to_read, pieces, reading, third_check}
 use Rattle.bridge.specs.Calls.{burst_outcome, read_outcome}
 use Rattle.bridge.specs.Faults.{fault_line, fault_number}
-use Rattle.bridge.specs.Pieces.{PieceReply, after_piece, ended_read, no_window, outcome_by_read, outcome_claimed, read_ended, words_dismissed, words_moved, words_stored}
+use Rattle.bridge.specs.Pieces.{PieceReply, after_piece, no_window, outcome_by_read, outcome_claimed, read_ended, without_address, words_dismissed, words_moved, words_stored}
 use Rattle.bridge.specs.Runs.{all_moved, answer_of_read, buffer_filled, run}
 use Rattle.bridge.specs.State.{State}
 use Rattle.bridge.specs.Windows.{claim}
@@ -149,13 +149,13 @@ module _ (s₀ : State) (pci count : ℕ) (b₀ : List ℕ) (s : State) (b : Lis
     abbrev pub AnswerOf : Result ℕ BurstFault → Result ℕ (BurstRefusal ReadEnd) → Type 0
     AnswerOf r y = MatchResult r (λ address. y ≡ Ok address) (λ fault. IsErrAnd y (λ x. x ≡ Ended (Fault moved (pci + 4 * moved) fault)))
 
-    pub answer_goes_on : (r : Result ℕ BurstFault) (y : Result ℕ (BurstRefusal ReadEnd)) (address : ℕ) → AnswerOf r y → y ≡ Ok address → served (ended_read r) → length words ≡ length (part moved n b)
+    pub answer_goes_on : (r : Result ℕ BurstFault) (y : Result ℕ (BurstRefusal ReadEnd)) (address : ℕ) → AnswerOf r y → y ≡ Ok address → served (without_address r) → length words ≡ length (part moved n b)
         → Reading s₀ pci count b₀ t (put_mid moved (moved + n - moved) b words) (moved + n)
     answer_goes_on (Ok place) y address a e h w = go_on h w
     answer_goes_on (Err fault) (Ok place) address a e h w = absurd a
     answer_goes_on (Err fault) (Err x) address a e h w = absurd (let z : ◌≡◌ {A = ℕ} 0 1 = cc in omega arith)
 
-    pub answer_ends : (r : Result ℕ BurstFault) (y : Result ℕ (BurstRefusal ReadEnd)) → AnswerOf r y → (x : BurstRefusal ReadEnd) → y ≡ Err x → served (ended_read r) → OnErr r (words ≡ part moved n b)
+    pub answer_ends : (r : Result ℕ BurstFault) (y : Result ℕ (BurstRefusal ReadEnd)) → AnswerOf r y → (x : BurstRefusal ReadEnd) → y ≡ Err x → served (without_address r) → OnErr r (words ≡ part moved n b)
         → goal t (put_mid moved (moved + n - moved) b words) (Err x)
     answer_ends (Ok place) y a x e h w = absurd (let z : ◌≡◌ {A = ℕ} 0 1 = cc in omega arith)
     answer_ends (Err fault) (Ok place) a x e h w = absurd a

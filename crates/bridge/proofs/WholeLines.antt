@@ -1,4 +1,4 @@
--- The whole lines that follow a longword in its page.
+-- Whole lines that are read one after another, as far as they are good.
 use Rattle.std.proofs.Common.{◌≡◌, ℕ, zero, suc, ◌+◌, ◌-◌, ◌*◌, ◌/◌, ◌≤◌, true, false, List, [], ◌++◌, length, take, drop, Result, sym, refl, ap, ◌∙◌, arith}
 use borrow.Rule.Slice.PartMut.{put_mid}
 use Rattle.std.proofs.lemmas.Bool.{false≢true}
@@ -9,7 +9,7 @@ use Rattle.std.specs.Result.{is_ok}
 use Rattle.memory.specs.Content.{Content, Lines, absent, good, read_answer, read_place, spoiled}
 use Rattle.memory.specs.declared.MemoryFault.{MemoryFault}
 use Rattle.memory.proofs.PutParts.{put_long}
-use Rattle.bridge.specs.Longwords.{line_before, longword_at, longwords, whole_lines}
+use Rattle.bridge.specs.Longwords.{line_then, longword_at, longwords, whole_lines}
 use Rattle.bridge.specs.Runs.{buffer_filled}
 use Rattle.bridge.proofs.ReadBursts.{filled_so_far}
 
@@ -19,12 +19,12 @@ line_read line absent old bytes r e p t = absurd (false≢true (sym (ap is_ok e)
 line_read line spoiled old bytes r e p t = absurd (false≢true (sym (ap is_ok e) ∙ t))
 line_read line (good new) old bytes r e p t = ap good (sym p)
 
--- where one is refused, no line is taken
+-- where the first is refused, none is taken
 line_refused : (lines : Lines) (count line : ℕ) (r : Result Unit MemoryFault) → r ≡ read_answer line (lines line) → is_ok r ≡ false → whole_lines count line lines ≡ []
 line_refused lines zero line r e f = refl
 line_refused lines (suc count) line r e f = go (lines line) (sym (ap is_ok e) ∙ f)
   where
-    go : (c : Content) → is_ok (read_answer line c) ≡ false → line_before c (whole_lines count (line + 1) lines) ≡ []
+    go : (c : Content) → is_ok (read_answer line c) ≡ false → line_then c (whole_lines count (line + 1) lines) ≡ []
     go absent h = refl
     go spoiled h = refl
     go (good bytes) h = absurd (false≢true (sym h))
@@ -47,7 +47,7 @@ module _ (lines : Lines) (first : ℕ) (old words : List ℕ) (moved line : ℕ)
       let kept : length (put_mid moved (moved + 8 - moved) words part) ≡ length words = put_long moved (moved + 8 - moved) words part (long ∙ sym k) (omega arith) in
       let next : (length old - moved) / 8 ≡ suc ((length old - (moved + 8)) / 8) = omega (arith, i.same_length) in
       let here : part ++ whole_lines ((length old - (moved + 8)) / 8) (line + 1) lines ≡ whole_lines ((length old - moved) / 8) line lines =
-      ap (λ l. l ++ whole_lines ((length old - (moved + 8)) / 8) (line + 1) lines) p ∙ sym (ap (λ n. whole_lines n line lines) next ∙ ap (λ c. line_before c (whole_lines ((length old - (moved + 8)) / 8) (line + 1) lines)) g) in
+      ap (λ l. l ++ whole_lines ((length old - (moved + 8)) / 8) (line + 1) lines) p ∙ sym (ap (λ n. whole_lines n line lines) next ∙ ap (λ c. line_then c (whole_lines ((length old - (moved + 8)) / 8) (line + 1) lines)) g) in
       record {
         within = omega arith;
         same_length = kept ∙ i.same_length;

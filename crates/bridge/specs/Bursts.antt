@@ -79,7 +79,7 @@ piece_to_write pci words enables = record { pci = pci; count = length words; job
 abbrev pub in_line : ℕ → ℕ → ℕ
 in_line pci left = min left (8 - bits 4 2 pci)
 
--- how many of them lie before the next multiple of 2^13
+-- and before the next multiple of 2^13, where a page ends
 abbrev pub in_page : ℕ → ℕ → ℕ
 in_page pci left = min left (2048 - bits 12 2 pci)
 

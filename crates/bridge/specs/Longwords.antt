@@ -14,15 +14,16 @@ quadword_at bytes offset = joined (take 8 (drop offset bytes))
 abbrev pub longwords : ℕ → ℕ → List ℕ → List ℕ
 longwords count offset bytes = map (λ k. longword_at bytes (offset + 4 * k)) (range_with_len 0 count)
 
--- all longwords of `count` lines from a line on, up to the first one that is not good
-abbrev pub line_before : Content → List ℕ → List ℕ
-line_before absent later = []
-line_before spoiled later = []
-line_before (good bytes) later = longwords 8 0 bytes ++ later
+-- the longwords of a good line, and later ones; a line that is not good ends them
+abbrev pub line_then : Content → List ℕ → List ℕ
+line_then absent later = []
+line_then spoiled later = []
+line_then (good bytes) later = longwords 8 0 bytes ++ later
 
+-- the longwords of so many lines from a line on, up to the first that is not good
 abbrev pub whole_lines : ℕ → ℕ → Lines → List ℕ
 whole_lines zero line lines = []
-whole_lines (suc count) line lines = line_before (lines line) (whole_lines count (line + 1) lines)
+whole_lines (suc count) line lines = line_then (lines line) (whole_lines count (line + 1) lines)
 
 -- the four bytes of a longword, low end first
 abbrev pub word_bytes : ℕ → List ℕ

@@ -88,10 +88,10 @@ outcome_located log lines p l = outcome_at_place l.look_aside log lines p l.plac
 abbrev pub outcome_claimed : State → Piece → ℕ → Bool → PieceOutcome
 outcome_claimed s p number mapped = outcome_located s.control.log s.lines p (located_claimed s p.pci number mapped)
 
--- whether the code read a piece, without the address that it read from
-abbrev pub ended_read : Result ℕ BurstFault → Result Unit BurstFault
-ended_read (Ok address) = Ok tt
-ended_read (Err fault) = Err fault
+-- the code's answer for a piece of a read, without the address that it leads to
+abbrev pub without_address : Result ℕ BurstFault → Result Unit BurstFault
+without_address (Ok address) = Ok tt
+without_address (Err fault) = Err fault
 
 -- what the code's answer for a piece stands for, with the rows that it leaves: of a read the longwords, of a write the edit
 abbrev pub outcome_by_read : LookAside → FaultLog → Piece → List ℕ → Result Unit BurstFault → PieceOutcome

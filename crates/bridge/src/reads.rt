@@ -5,7 +5,7 @@ ghost use Rattle.bridge.specs.BurstAnswers.{read_answered};
 ghost use Rattle.bridge.specs.Bursts.{card_read, piece_to_read, third_check};
 ghost use Rattle.bridge.specs.Calls.{burst_outcome, card, performed, read_outcome};
 ghost use Rattle.bridge.specs.Longwords.{longwords, whole_lines};
-ghost use Rattle.bridge.specs.Pieces.{after_piece, ended_read, outcome_by_read, outcome_claimed};
+ghost use Rattle.bridge.specs.Pieces.{after_piece, outcome_by_read, outcome_claimed, without_address};
 ghost use Rattle.bridge.specs.Runs.{buffer_filled};
 ghost use Rattle.bridge.specs.State.{state_of, with_rows};
 ghost use Rattle.bridge.specs.Translation.{located_claimed, reached};
@@ -47,7 +47,7 @@ impl<M: Memory> Bridge<M> {
     // they were.
     fn read_line(&mut self, claimed: Claimed, words: &mut [u32]) -> Result<u64, BurstFault>
         requires { bits 4 2 claimed.pci + length words.old ≤ 8 }
-        ensures outcome { outcome_by_read self.new.look_aside self.old.log (piece_to_read claimed.pci words.old) words.new (ended_read result) ≡ outcome_claimed (state_of M.Memory.content self.old) (piece_to_read claimed.pci words.old) claimed.number claimed.mapped }
+        ensures outcome { outcome_by_read self.new.look_aside self.old.log (piece_to_read claimed.pci words.old) words.new (without_address result) ≡ outcome_claimed (state_of M.Memory.content self.old) (piece_to_read claimed.pci words.old) claimed.number claimed.mapped }
         ensures kept { OnErr result (words.new ≡ words.old) }
         ensures again { IfOk result (λ address. located_claimed (state_of M.Memory.content self.new) claimed.pci claimed.number claimed.mapped ≡ reached self.new.look_aside address) }
         ensures low { IfOk result (λ address. address % 32 ≡ claimed.pci % 32) }
@@ -63,11 +63,11 @@ impl<M: Memory> Bridge<M> {
     // Reads a piece of a burst, and logs its fault.
     fn read_piece(&mut self, claimed: Claimed, words: &mut [u32]) -> Result<u64, BurstFault>
         requires { bits 4 2 claimed.pci + length words.old ≤ 8 }
-        ensures outcome { outcome_by_read self.new.look_aside self.old.log (piece_to_read claimed.pci words.old) words.new (ended_read result) ≡ outcome_claimed (state_of M.Memory.content self.old) (piece_to_read claimed.pci words.old) claimed.number claimed.mapped }
+        ensures outcome { outcome_by_read self.new.look_aside self.old.log (piece_to_read claimed.pci words.old) words.new (without_address result) ≡ outcome_claimed (state_of M.Memory.content self.old) (piece_to_read claimed.pci words.old) claimed.number claimed.mapped }
         ensures kept { OnErr result (words.new ≡ words.old) }
         ensures again { IfOk result (λ address. located_claimed (state_of M.Memory.content self.new) claimed.pci claimed.number claimed.mapped ≡ reached self.new.look_aside address) }
         ensures low { IfOk result (λ address. address % 32 ≡ claimed.pci % 32) }
-        ensures after { state_of M.Memory.content self.new ≡ after_piece (state_of M.Memory.content self.old) (outcome_by_read self.new.look_aside self.old.log (piece_to_read claimed.pci words.old) words.new (ended_read result)) }
+        ensures after { state_of M.Memory.content self.new ≡ after_piece (state_of M.Memory.content self.old) (outcome_by_read self.new.look_aside self.old.log (piece_to_read claimed.pci words.old) words.new (without_address result)) }
     {
         let served = self.read_line(claimed, words);
         self.log
