@@ -30,15 +30,15 @@ fn take_from(line: &[u8; 32], offset: usize, words: &mut [u32])
     }
 }
 
-// The same. Most lines are taken whole, and then the compiler knows how much is copied.
+// The same. Most lines are taken whole, and many bursts have one longword; then the compiler knows how much is copied.
 fn take_longwords(line: &[u8; 32], offset: usize, words: &mut [u32])
     requires { offset + 4 * length words.old ≤ 32 }
     ensures { words.new ≡ longwords (length words.old) offset line.now }
 {
-    if words.len() == 8 {
-        take_from(line, 0, words);
-    } else {
-        take_from(line, offset, words);
+    match words.len() {
+        1 => words[0] = longword(line, offset),
+        8 => take_from(line, 0, words),
+        _ => take_from(line, offset, words),
     }
 }
 
