@@ -4,7 +4,7 @@ pub mod LaneFacts
 pub mod LineBytes
 pub mod BurstRuns
 pub mod ReadBursts
-pub mod WholeLines
+pub mod LineReads
 pub mod PageReads
 pub mod WriteBursts
 pub mod Reach

@@ -4,7 +4,7 @@ ghost use Rattle.bridge.specs.Bits.{bits};
 ghost use Rattle.bridge.specs.BurstAnswers.{read_answered};
 ghost use Rattle.bridge.specs.Bursts.{card_read, piece_to_read, third_check};
 ghost use Rattle.bridge.specs.Calls.{burst_outcome, card, performed, read_outcome};
-ghost use Rattle.bridge.specs.Longwords.{longwords, whole_lines};
+ghost use Rattle.bridge.specs.Longwords.{lines_on, longwords};
 ghost use Rattle.bridge.specs.Pieces.{after_piece, outcome_by_read, outcome_claimed, without_address};
 ghost use Rattle.bridge.specs.Runs.{buffer_filled};
 ghost use Rattle.bridge.specs.State.{state_of, with_rows};
@@ -75,10 +75,10 @@ impl<M: Memory> Bridge<M> {
         served
     }
 
-    // Reads whole lines from one on, as far as they are good, and says how many longwords that were.
-    fn read_whole_lines(&self, first: u64, words: &mut [u32]) -> usize
-        ensures words { words.new ≡ buffer_filled (whole_lines (length words.old / 8) first (M.Memory.content self.now.memory)) words.old }
-        ensures count { result ≡ length (whole_lines (length words.old / 8) first (M.Memory.content self.now.memory)) }
+    // Reads the longwords from the front of a line on, as far as the lines are good, and says how many that were.
+    fn read_lines(&self, first: u64, words: &mut [u32]) -> usize
+        ensures words { words.new ≡ buffer_filled (lines_on (length words.old) first (M.Memory.content self.now.memory)) words.old }
+        ensures count { result ≡ length (lines_on (length words.old) first (M.Memory.content self.now.memory)) }
         ensures bound { result ≤ length words.old }
     {
         let mut moved = 0;
@@ -88,6 +88,12 @@ impl<M: Memory> Bridge<M> {
             take_from(&bytes, 0, &mut words[moved..moved + 8]);
             moved += 8;
             line += 1;
+        }
+        // What is left is less than a line, or begins with a line that is not good.
+        let left = words.len() - moved;
+        if left > 0 && left < 8 && self.memory.read(line, &mut bytes).is_ok() {
+            take_from(&bytes, 0, &mut words[moved..moved + left]);
+            moved += left;
         }
         moved
     }
@@ -128,7 +134,7 @@ impl<M: Memory> Bridge<M> {
             // not good is left to the next turn.
             let end = moved + in_page(here, count - moved);
             moved += n;
-            moved += self.read_whole_lines(address / 32 + 1, &mut buffer[moved..end]);
+            moved += self.read_lines(address / 32 + 1, &mut buffer[moved..end]);
         }
         Ok(())
     }

@@ -36,7 +36,7 @@ loop-moved-preserved g c =
     c.in_ok-address.address
     (of_address fault_at c.read_piece.result c.map_err.result _ made c.in_ok-address.was _ c.read_piece.ensures.again)
     (of_address fault_at c.read_piece.result c.map_err.result _ made c.in_ok-address.was _ c.read_piece.ensures.low)
-    _ (ap (λ k. c.loop-moved.moved + k) c.in_page.ensures) _ refl c.read_whole_lines.new.words c.read_whole_lines.auto.words c.read_whole_lines.ensures.words _ c.read_whole_lines.ensures.count
+    _ (ap (λ k. c.loop-moved.moved + k) c.in_page.ensures) c.read_lines.new.words c.read_lines.auto.words c.read_lines.ensures.words _ c.read_lines.ensures.count
 
 pub returns : goal.returns
 returns g c = complete _ _ _ _ _ _ _ c.loop-moved.invariant (omega arith) c.requires.some c.loop-moved-test.false
