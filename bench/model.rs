@@ -642,13 +642,13 @@ impl fmt::Display for LoadRow {
     }
 }
 
-// A burst with what it is answered, and the place of its bytes for the plain copy.
+// A burst with what it is answered, of a read the number, and the place of its bytes for the plain copy.
 #[derive(Clone)]
 struct Job {
     pci: u32,
     words: [u32; 64],
     enables: [u8; 64],
-    read: Result<(), ReadRefusal>,
+    read: u8,
     written: Result<WriteCounts, WriteRefusal>,
     at: usize,
     copied: [u8; 256],
@@ -658,7 +658,7 @@ const EMPTY: Job = Job {
     pci: 0,
     words: [0; 64],
     enables: [0; 64],
-    read: Ok(()),
+    read: 0,
     written: Ok(WriteCounts {
         taken: 0,
         stored: 0,
@@ -705,10 +705,7 @@ impl Job {
     fn add_to(&self, row: &LoadRow, sum: &mut Checksum) {
         match row.direction {
             Direction::Read => {
-                sum.add(match self.read {
-                    Ok(()) => 0,
-                    Err(refusal) => u64::from(refusal.number()),
-                });
+                sum.add(u64::from(self.read));
                 for word in &self.words[..row.count] {
                     sum.add(u64::from(*word));
                 }
@@ -759,7 +756,7 @@ fn make_all(jobs: &mut [Job], row: &LoadRow, random: &mut Random, turn: u64) {
 #[inline(never)]
 fn read_all<M: Memory>(bridge: &mut Bridge<M>, count: usize, jobs: &mut [Job]) {
     for job in jobs {
-        job.read = bridge.card_read(job.pci, count, &mut job.words);
+        job.read = bridge.card_read(job.pci, count, &mut job.words).map_or_else(|refusal| refusal.number(), |()| 0);
     }
 }
 

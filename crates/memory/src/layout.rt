@@ -1,8 +1,6 @@
 // A memory whose lines lie in one run of bytes, where a layout places them.
-ghost use Rattle.std.specs.Prelude.{◌≡◌, replicate, IfOk, vec_len};
-ghost use Rattle.memory.specs.Layers.{lines_laid};
+ghost use Rattle.std.specs.Prelude.{◌≡◌, ◌-◌, replicate, IfOk, vec_len};
 ghost use Rattle.memory.specs.Layouts.{Apart, PlacedBelow, Places, inside};
-ghost use Rattle.memory.specs.LinesAt.{laid_out_beyond, laid_out_whole};
 ghost use Rattle.std.proofs.Common.{arith};
 
 use crate::line::{fetch, put};
@@ -27,9 +25,12 @@ pub trait Layout {
 
 // Bytes under a layout. A line that does not lie whole within them is absent, and none is ever spoiled.
 #[derive(Drop)]
-pub struct Laid<L: Layout> {
+pub struct Laid<L> {
     layout: L,
     bytes: Vec<u8>,
+    // The lines that lie whole within the bytes are those that begin below this offset.
+    starts_below: usize,
+    ghost whole_lines: { starts_below ≡ vec_len bytes - 31 },
 }
 
 impl<L: Layout> Laid<L> {
@@ -37,7 +38,12 @@ impl<L: Layout> Laid<L> {
     pub(crate) fn new(layout: L, bytes: Vec<u8>) -> Laid<L>
         ensures { (result.layout ≡ layout) × (result.bytes ≡ bytes) }
     {
-        Laid { layout, bytes }
+        let starts_below = bytes.len().saturating_sub(31);
+        Laid {
+            layout,
+            bytes,
+            starts_below,
+        }
     }
 
     // Bytes that are all 0, under a layout.
@@ -47,7 +53,7 @@ impl<L: Layout> Laid<L> {
         ensures { IfOk result (λ m. (m.layout ≡ layout) × (vec_len m.bytes ≡ n) × (m.bytes.items ≡ replicate n 0)) }
     {
         let bytes = vec![in heap; 0; n]?;
-        Ok(Laid { layout, bytes })
+        Ok(Laid::new(layout, bytes))
     }
 
     #[inline(always)]
@@ -55,12 +61,14 @@ impl<L: Layout> Laid<L> {
         ensures { result ≡ inside (vec_len self.now.bytes) (L.Layout.place self.now.layout line) }
     {
         let at = self.layout.place_of(line)?;
-        let last = self.bytes.len().checked_sub(32)?;
-        (at <= last).then_some(at)
+        (at < self.starts_below).then_some(at)
     }
 }
 
 impl<L: Layout> Memory for Laid<L> {
+    ghost use Rattle.memory.specs.Layers.{lines_laid};
+    ghost use Rattle.memory.specs.LinesAt.{laid_out_beyond, laid_out_whole};
+
     ghost content = { lines_laid L.Layout.place };
 
     ghost beyond = { λ m line h. laid_out_beyond _ _ _ (L.Layout.below m.layout line h) };

@@ -30,13 +30,14 @@ const TABLE_LINE: u64 = 63 * 256;
 // The lines of a memory.
 const LINES: u64 = 64 * 256;
 
-// A burst with what it is answered. A read fills `words`, a write stores them.
+// A burst with what it is answered. A read fills `words`, a write stores them. Of a read's answer the number is kept: to move a
+// whole refusal takes longer than the burst of one longword that was not refused.
 #[derive(Clone, Copy)]
 struct Job {
     pci: u32,
     words: [u32; 64],
     enables: [u8; 64],
-    read: Result<(), ReadRefusal>,
+    read: u8,
     written: Result<WriteCounts, WriteRefusal>,
 }
 
@@ -44,7 +45,7 @@ const EMPTY: Job = Job {
     pci: 0,
     words: [0; 64],
     enables: [0; 64],
-    read: Ok(()),
+    read: 0,
     written: Ok(WriteCounts {
         taken: 0,
         stored: 0,
@@ -160,10 +161,7 @@ impl Job {
 
     // Adds the answer of a read, and the longwords that it moved.
     fn add_read(&self, count: usize, sum: &mut Checksum) {
-        sum.add(match self.read {
-            Ok(()) => 0,
-            Err(refusal) => u64::from(refusal.number()),
-        });
+        sum.add(u64::from(self.read));
         for word in self.words.iter().take(count) {
             sum.add(u64::from(*word));
         }
@@ -195,9 +193,17 @@ fn make_all(jobs: &mut [Job], row: &Row, random: &mut Random, turn: u64) {
     }
 }
 
+// The number of a read's answer: 0, or that of its refusal.
+fn read_number(answer: Result<(), ReadRefusal>) -> u8 {
+    match answer {
+        Ok(()) => 0,
+        Err(refusal) => refusal.number(),
+    }
+}
+
 fn read_all<M: Memory>(bridge: &mut Bridge<M>, count: usize, jobs: &mut [Job]) {
     for job in jobs.iter_mut() {
-        job.read = bridge.card_read(job.pci, count, &mut job.words);
+        job.read = read_number(bridge.card_read(job.pci, count, &mut job.words));
     }
 }
 
