@@ -5,6 +5,7 @@ pub mod LineBytes
 pub mod BurstRuns
 pub mod ReadBursts
 pub mod LineReads
+pub mod SamePage
 pub mod PageReads
 pub mod WriteBursts
 pub mod Reach

@@ -1,7 +1,6 @@
 -- An input answered line by line: what was read so far was answered, and what is left is answered behind it.
-use Rattle.std.proofs.Common.{◌≡◌, ℕ, List, [], ◌∷◌, ◌++◌, Some, None, Ok, Err, IfSome, OnOk, Option, Result, sym, refl, ap, ◌∙◌, subst}
+use Rattle.std.proofs.Common.{◌≡◌, ℕ, List, [], ◌∷◌, ◌++◌, Some, None, Ok, Err, OnOk, Option, Result, sym, refl, ap, ◌∙◌, subst}
 use Rattle.std.specs.Io.KnownBytes.{Appends, Consumes, IsAtEnd}
-use Rattle.std.specs.Fmt.{with_newline}
 use Rattle.session.specs.declared.replies.Reply.{Reply}
 use Rattle.session.specs.declared.session.Session.{Session}
 use Rattle.session.specs.InputLines.{Cut, Step, ended_lines, fed, kept, last_line, lines_from}
@@ -27,7 +26,7 @@ appends_none : (old : Option (List ℕ)) → Appends old old []
 appends_none None = tt
 appends_none (Some xs) = sym (append_end xs)
 
-pub line_printed : {E : Type 0} (r : Result Unit E) (s t : Session) (line : Cut) (reply : Reply) (old new : Option (List ℕ)) → InputAnswered s line reply t → OnOk r (IfSome (with_newline (Some (reply_text reply))) (Appends old new)) → OnOk r (LineServed s line old new t)
+pub line_printed : {E : Type 0} (r : Result Unit E) (s t : Session) (line : Cut) (reply : Reply) (old new : Option (List ℕ)) → InputAnswered s line reply t → OnOk r (Appends old new (printed reply)) → OnOk r (LineServed s line old new t)
 line_printed (Ok done) s t line reply old new a h = record {
   text = printed reply ++ [];
   replied = (reply, t, [], a, refl, (refl, refl));
