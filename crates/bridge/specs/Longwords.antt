@@ -25,6 +25,7 @@ abbrev pub lines_from : ℕ → ℕ → ℕ → Lines → List ℕ
 lines_from zero left line lines = []
 lines_from (suc count) left line lines = line_then (min left 8) (lines line) (lines_from count (left - 8) (line + 1) lines)
 
+-- in as many lines as they need
 abbrev pub lines_on : ℕ → ℕ → Lines → List ℕ
 lines_on left line lines = lines_from ((left + 7) / 8) left line lines
 
