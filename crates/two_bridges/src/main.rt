@@ -11,7 +11,7 @@ mod random;
 mod runs;
 
 use anyhow::Result;
-use memories::COMMON_MARKS;
+use memories::{COMMON_MARKS, READ_LINE};
 use runs::{run_same, run_with_slip};
 
 fn main(rt: HostRuntime) -> Result<()> {
@@ -27,7 +27,9 @@ fn main(rt: HostRuntime) -> Result<()> {
     let banks = memories::banks_under_marks(heap, &COMMON_MARKS)?;
     run_same(&rt, flat, banks)?;
     println!(rt; "The same calls, an entry of the table naming a hidden page.")?;
-    run_with_slip(&rt)?;
+    run_with_slip(&rt, &[])?;
+    println!(rt; "The same, a line that a card then reads spoiled in the banks.")?;
+    run_with_slip(&rt, &[READ_LINE])?;
     println!(rt; "All was the same where the premise holds.")?;
     Ok(())
 }

@@ -12,6 +12,9 @@ use std::alloc::Global;
 // Lines of hidden pages that are marked on the right alone. The last two digits of a line are its place in the page.
 const HIDDEN_MARKS: [u64; 8] = [0x300, 0x311, 0x3ff, 0x500, 0x4000, 0x40ff, 0x7f00, 0x7fff];
 
+// A line of the first hidden page, which a card reads where the premise is broken.
+pub const READ_LINE: u64 = 0x352;
+
 // Lines outside hidden pages that may be marked on both sides: one of the table, and some that cards reach.
 pub const COMMON_MARKS: [u64; 12] = [
     0x203, 0x400, 0x401, 0x4ff, 0x600, 0x3f00, 0x3fff, 0x4100, 0x8000, 0x8001, 0x80ff, 0x8700,

@@ -68,12 +68,12 @@ fn with_slip(heap: Global, side: Side) -> Result<Vec<Step>, AllocError> {
     Ok(steps)
 }
 
-// Runs the list behind that store, and prints the first difference, which a card must see.
-pub(crate) fn run_with_slip(rt: &(impl Print + AllocGlobal)) -> Result<()> {
+// Runs the list behind that store, lines of the banks besides marked, and prints the first difference, which a card must see.
+pub(crate) fn run_with_slip(rt: &(impl Print + AllocGlobal), marks: &[u64]) -> Result<()> {
     let heap = rt.alloc();
     let mut pair = Pair::new(
         memories::flat(heap)?,
-        memories::banks_under_marks(heap, &[])?,
+        memories::banks_under_marks(heap, marks)?,
     );
     let mut lefts = with_slip(heap, Side::Left)?;
     let mut rights = with_slip(heap, Side::Right)?;
