@@ -130,8 +130,8 @@ impl<M: Memory> Bridge<M> {
                         fault,
                     })
                 })?;
-            // Claim and translation stay the same in a page, so the whole lines that follow in it are read at once. One that is
-            // not good is left to the next turn.
+            // Claim and translation stay the same in a page, so what follows in it is read at once, up to a line that is not
+            // good: that one is left to the next turn.
             let end = moved + in_page(here, count - moved);
             moved += n;
             moved += self.read_lines(address / 32 + 1, &mut buffer[moved..end]);
