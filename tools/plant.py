@@ -8,7 +8,7 @@ A bug changes one line inside a body. It works on a copy of the repository in a 
 survived. With --printed it is judged by what `rt try` prints, without a proof: for programs whose functions promise little; for a
 crate of tests, by the tests. ARGS go to the program. docs/PLANTED_BUGS.md has what came of it.
 """
-import argparse, os, random, re, shutil, subprocess, tempfile, time
+import argparse, os, random, re, shutil, subprocess, sys, tempfile, time
 
 CHANGES = [
     (r"(?<![<>=!-])<(?![<=])(?=\s)", "<="), (r"<=", "<"), (r"(?<=\s)>(?![>=])(?=\s)", ">="), (r"(?<![>-])>=", ">"),
@@ -91,8 +91,11 @@ def main():
     parser.add_argument("--file", default="")
     parser.add_argument("--printed", action="store_true")
     parser.add_argument("--list", action="store_true")
-    parser.add_argument("arguments", nargs="*")
-    wanted = parser.parse_args()
+    options, arguments = sys.argv[1:], []
+    if "--" in options:
+        cut = options.index("--")
+        options, arguments = options[:cut], options[cut + 1:]
+    wanted = parser.parse_args(options)
     top = os.path.dirname(os.path.dirname(os.path.abspath(__file__)))
     found = []
     for folder, _, names in sorted(os.walk(os.path.join(top, "crates", wanted.crate, "src"))):
@@ -109,7 +112,7 @@ def main():
     shutil.copytree(top, copy, ignore=shutil.ignore_patterns(".git"), symlinks=True)
     folder = os.path.join(copy, "crates", wanted.crate)
     began = time.time()
-    before = printed(folder, wanted.arguments) if wanted.printed else checked(folder, None)
+    before = printed(folder, arguments) if wanted.printed else checked(folder, None)
     limit = max(600, 9 * (time.time() - began))
     if before not in ("survived",) and not wanted.printed or before is None:
         raise SystemExit(f"without a bug: {before}")
@@ -123,7 +126,7 @@ def main():
         with open(os.path.join(copy, path), "w", encoding="utf-8") as file:
             file.write("\n".join(lines))
         if wanted.printed:
-            after = printed(folder, wanted.arguments)
+            after = printed(folder, arguments)
             kind = "does not compile" if after is None else "survived" if after == before else "noticed"
         else:
             kind = checked(folder, limit)

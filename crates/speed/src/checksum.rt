@@ -5,14 +5,17 @@ pub struct Checksum {
 }
 
 impl Checksum {
+    // Nothing is added yet.
     pub(crate) fn new() -> Checksum {
         Checksum { value: 0 }
     }
 
+    // Adds a number.
     pub(crate) fn add(&mut self, n: u64) {
         self.value = (self.value.rotate_left(7) ^ n).wrapping_mul(0x9e37_79b9_7f4a_7c15);
     }
 
+    // The checksum of what was added so far.
     pub(crate) fn value(&self) -> u64 {
         self.value
     }

@@ -1,4 +1,4 @@
-// Why the load stops: the machine has no memory, printing or the clock fails, or the set-up of a row is refused.
+// What may stop the load.
 use bridge::processor::AccessRefusal;
 use bridge::registers::RegisterRefusal;
 use memory::banks::BankListRefusal;
@@ -6,6 +6,7 @@ use memory::marks::MarkRefusal;
 use std::alloc::AllocError;
 use std::io;
 
+// Why the load stops: the machine has no memory, printing or the clock fails, or the set-up of a row is refused.
 #[derive(Debug, Drop)]
 pub enum SpeedError {
     Memory,

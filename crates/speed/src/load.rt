@@ -285,6 +285,7 @@ fn add_look_aside<M: Memory>(bridge: &Bridge<M>, sum: &mut Checksum) -> Result<(
     Ok(())
 }
 
+// Runs a row on a new bridge over a memory, and says its checksum and how long a burst took.
 pub(crate) fn run_row<M: Memory + Drop, R: Clock>(
     rt: &R,
     heap: Global,

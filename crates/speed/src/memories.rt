@@ -18,6 +18,7 @@ pub(crate) const PAGES: u64 = 56;
 // The bytes of a bank.
 const BANK: u64 = 0x1_0000;
 
+// Which of the three.
 #[derive(Clone, Copy)]
 pub enum MemoryKind {
     Flat,
@@ -35,6 +36,7 @@ impl fmt::Display for MemoryKind {
     }
 }
 
+// All bytes in one run.
 pub(crate) fn flat(heap: Global) -> Result<Flat, SpeedError> {
     Ok(Flat::zeros(heap, BYTES)?)
 }

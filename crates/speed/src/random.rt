@@ -1,16 +1,20 @@
-// A seeded generator of numbers: xorshift of 64 bits.
+// Numbers that look random, and are the same in each run.
+
+// Marsaglia's xorshift of 64 bits.
 #[derive(Clone, Copy)]
 pub struct Random {
     state: u64,
 }
 
 impl Random {
+    // The seed is fixed, and not 0.
     pub(crate) fn seeded() -> Random {
         Random {
             state: 0x2545_f491_4f6c_dd1d,
         }
     }
 
+    // The next number.
     pub(crate) fn next(&mut self) -> u64 {
         let mut x = self.state;
         x ^= x << 13;

@@ -22,6 +22,7 @@ impl fmt::Display for Through {
     }
 }
 
+// One row of the load.
 #[derive(Clone, Copy)]
 pub struct Row {
     pub memory: MemoryKind,

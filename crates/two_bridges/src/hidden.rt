@@ -36,6 +36,7 @@ fn take_store(lines: &mut [HiddenLine], step: &Step) {
     }
 }
 
+// Takes the stores of some steps, in order.
 pub(crate) fn take_stores(lines: &mut [HiddenLine], steps: &[Step]) {
     for step in steps {
         take_store(lines, step);

@@ -129,10 +129,12 @@ pub(crate) fn line_address(page: u64, line: u64) -> u64 {
     page << 13 | line << 5
 }
 
+// Whether a line lies in a hidden page.
 pub(crate) fn is_hidden_line(line: u64) -> bool {
     HIDDEN.contains(&(line / PAGE_LINES))
 }
 
+// Whether an address does.
 pub(crate) fn is_hidden(address: u64) -> bool {
     is_hidden_line(address / 32)
 }
