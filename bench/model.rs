@@ -346,7 +346,7 @@ impl<M: Memory> Bridge<M> {
         }
     }
 
-    // The registers that the load writes.
+    // The registers of the windows.
     fn register_write(&mut self, n: u64, value: u32) {
         match n {
             6 | 7 => self.windows[n as usize - 6].translated = value & 0xffff_fe00,
@@ -723,12 +723,9 @@ impl Job {
 }
 
 fn open_windows<M: Memory>(bridge: &mut Bridge<M>) {
-    bridge.register_write(6, 0);
     bridge.register_write(8, PLAIN + 0x8_0000);
-    bridge.register_write(10, 0);
     bridge.register_write(7, (TABLE_LINE * 16) as u32);
     bridge.register_write(9, MAPPED + 0xc_0000);
-    bridge.register_write(11, 0);
 }
 
 fn fill<M: Memory>(bridge: &mut Bridge<M>, random: &mut Random) {
