@@ -4,7 +4,6 @@ pub mod LaneFacts
 pub mod LineBytes
 pub mod BurstRuns
 pub mod ReadBursts
-pub mod LineReads
 pub mod SamePage
 pub mod PageReads
 pub mod WriteBursts

@@ -1,6 +1,6 @@
 -- A card write, piece by piece: what it counts, and its answer.
 use Rattle.std.proofs.Common.{◌≡◌, ℕ, ◌+◌, ◌-◌, ◌*◌, ◌<◌, ◌≤◌, Bool, true, false, cond, eqb, List, [], ◌∷◌, ◌++◌, length, take, drop, is_ok, Some, None, Ok, Err, Result, sym, refl, ap, ◌∙◌, subst, ⊎_elim, add-zero, add_assoc, zero-add, arith, eq-eqb}
-use Rattle.std.proofs.lemmas.List.{append-nil, take-append-drop, take-take}
+use Rattle.std.proofs.lemmas.List.{append-nil, length-drop, length-take, take-append-drop, take-take}
 use Rattle.std.proofs.Math.Seq.{take-add}
 use Rattle.std.proofs.lemmas.Bool.{cond-false, cond-true, ne_eqb}
 use Rattle.std.specs.List.{AllByRecursion}
@@ -20,7 +20,13 @@ use Rattle.bridge.specs.State.{State}
 use Rattle.bridge.specs.Windows.{claim}
 use Rattle.bridge.proofs.BurstRuns.{GoesOn, Progress, finish, held_outcome, piece_at, start, step, stop_unheld, unheld_outcome}
 use Rattle.bridge.proofs.LineBytes.{wide_parts}
-use Rattle.bridge.proofs.ReadBursts.{part, part_length}
+
+-- the part of a buffer that a piece is written from
+abbrev pub part : ℕ → ℕ → List ℕ → List ℕ
+part done n b = take (done + n - done) (drop done b)
+
+pub part_length : (done n : ℕ) (b : List ℕ) → done + n ≤ length b → length (part done n b) ≡ n
+part_length done n b h = simp (length-take, length-drop) (omega arith)
 
 -- and so are those of a piece
 pub wide_part : (es : List ℕ) (count done n : ℕ) → done + n ≤ count → wide_enable (take count es) ≡ false → wide_enable (part done n es) ≡ false

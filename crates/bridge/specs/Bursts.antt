@@ -68,10 +68,7 @@ pub record Piece : Type 0 where
   pub count : ℕ
   pub job : Job
 
--- a piece by the longwords that it reads into, or those that it writes with their byte enables
-abbrev pub piece_to_read : ℕ → List ℕ → Piece
-piece_to_read pci words = record { pci = pci; count = length words; job = reading }
-
+-- a piece by the longwords that it writes with their byte enables
 abbrev pub piece_to_write : ℕ → List ℕ → List ℕ → Piece
 piece_to_write pci words enables = record { pci = pci; count = length words; job = writing words enables }
 

@@ -1,33 +1,11 @@
--- Longwords in a line: what a read takes out of its bytes, and what a write puts there, under which mask.
-use Rattle.std.specs.Prelude.{ℕ, zero, suc, ◌+◌, ◌-◌, ◌*◌, ◌/◌, ◌%◌, ◌^◌, cond, List, [], ◌∷◌, ◌++◌, map, min, take, drop, nat_lt, slice_index}
+-- Quadwords and longwords in a line: what an entry or a load takes out of its bytes, and what a write of longwords puts there, under which mask.
+use Rattle.std.specs.Prelude.{ℕ, ◌+◌, ◌-◌, ◌*◌, ◌/◌, ◌%◌, ◌^◌, cond, List, [], ◌∷◌, map, take, drop, nat_lt, slice_index}
 use Rattle.std.specs.List.{range_with_len}
 use Rattle.memory.specs.Bytes.{joined}
-use Rattle.memory.specs.Content.{Content, Lines, absent, spoiled, good}
 
--- the longword and the quadword at an offset of some bytes, and `count` longwords from an offset on
-abbrev pub longword_at : List ℕ → ℕ → ℕ
-longword_at bytes offset = joined (take 4 (drop offset bytes))
-
+-- the quadword at an offset of some bytes
 abbrev pub quadword_at : List ℕ → ℕ → ℕ
 quadword_at bytes offset = joined (take 8 (drop offset bytes))
-
-abbrev pub longwords : ℕ → ℕ → List ℕ → List ℕ
-longwords count offset bytes = map (λ k. longword_at bytes (offset + 4 * k)) (range_with_len 0 count)
-
--- the first longwords of a good line, and later ones; a line that is not good ends them
-abbrev pub line_then : ℕ → Content → List ℕ → List ℕ
-line_then n absent later = []
-line_then n spoiled later = []
-line_then n (good bytes) later = longwords n 0 bytes ++ later
-
--- `left` longwords in so many lines, from the front of a line on, up to the first line that is not good
-abbrev pub lines_from : ℕ → ℕ → ℕ → Lines → List ℕ
-lines_from zero left line lines = []
-lines_from (suc count) left line lines = line_then (min left 8) (lines line) (lines_from count (left - 8) (line + 1) lines)
-
--- in as many lines as they need
-abbrev pub lines_on : ℕ → ℕ → Lines → List ℕ
-lines_on left line lines = lines_from ((left + 7) / 8) left line lines
 
 -- the four bytes of a longword, low end first
 abbrev pub word_bytes : ℕ → List ℕ

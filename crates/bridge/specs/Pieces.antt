@@ -1,7 +1,9 @@
 -- One piece of a burst: claim, translation, one memory call.
-use Rattle.std.specs.Prelude.{ℕ, ◌/◌, ◌%◌, Bool, List, Ok, Err, Result}
+use Rattle.std.specs.Prelude.{◌≡◌, ℕ, ◌/◌, ◌%◌, Bool, List, length, Ok, Err, Result}
 use Rattle.memory.specs.Content.{Content, Lines, absent, spoiled, good, written}
+use Rattle.memory.specs.declared.MemoryFault.{MemoryFault}
 use Rattle.memory.specs.declared.MemoryFault.TheVariants.{Absent, Spoiled}
+use Rattle.memory.specs.Longwords.{buffer_filled, longwords, longwords_answer, longwords_on}
 use Rattle.bridge.specs.declared.enables.WritePiece.{WritePiece}
 use Rattle.bridge.specs.declared.faults.BurstFault.{BurstFault}
 use Rattle.bridge.specs.declared.faults.BurstFault.TheVariants.{Target, Walk}
@@ -9,7 +11,7 @@ use Rattle.bridge.specs.declared.log.FaultLog.{FaultLog}
 use Rattle.bridge.specs.declared.look_aside.LookAside.{LookAside}
 use Rattle.bridge.specs.Bursts.{Job, Piece, direction, piece_to_write, reading, writing}
 use Rattle.bridge.specs.Log.{logged}
-use Rattle.bridge.specs.Longwords.{line_bytes, line_mask, longwords}
+use Rattle.bridge.specs.Longwords.{line_bytes, line_mask}
 use Rattle.bridge.specs.State.{Control, State}
 use Rattle.bridge.specs.Translation.{Located, Place, located, located_claimed, table_fault, target, unclaimed}
 
@@ -88,19 +90,28 @@ outcome_located log lines p l = outcome_at_place l.look_aside log lines p l.plac
 abbrev pub outcome_claimed : State → Piece → ℕ → Bool → PieceOutcome
 outcome_claimed s p number mapped = outcome_located s.control.log s.lines p (located_claimed s p.pci number mapped)
 
--- the code's answer for a piece of a read, without the address that it leads to
-abbrev pub without_address : Result ℕ BurstFault → Result Unit BurstFault
-without_address (Ok address) = Ok tt
-without_address (Err fault) = Err fault
-
--- what the code's answer for a piece stands for, with the rows that it leaves: of a read the longwords, of a write the edit
-abbrev pub outcome_by_read : LookAside → FaultLog → Piece → List ℕ → Result Unit BurstFault → PieceOutcome
-outcome_by_read t log p words (Ok done) = record { look_aside = t; log = log; reply = words_moved words; edit = no_edit }
-outcome_by_read t log p words (Err fault) = outcome_faulted t log p fault
-
+-- what the code's answer for a piece of a write stands for, with the rows that it leaves and the edit that it makes
 abbrev pub outcome_by_write : LookAside → FaultLog → Piece → Edit → Result Unit BurstFault → PieceOutcome
 outcome_by_write t log p edit (Ok done) = record { look_aside = t; log = log; reply = words_stored p.count; edit = edit }
 outcome_by_write t log p edit (Err fault) = outcome_faulted t log p fault
+
+-- What the code's read of longwords in one page comes to, by where the first one leads: how many were read, up to the first line
+-- that is not good. A fault leaves the place for them.
+abbrev pub target_answer : Result ℕ MemoryFault → Result ℕ BurstFault
+target_answer (Ok count) = Ok count
+target_answer (Err fault) = Err (Target fault)
+
+abbrev pub ReadFrom : Place → Lines → List ℕ → List ℕ → Result ℕ BurstFault → Type 0
+ReadFrom unclaimed lines old new answer = ⊥
+ReadFrom (table_fault fault) lines old new answer = (answer ≡ Err (Walk fault)) × (new ≡ old)
+ReadFrom (target address) lines old new answer =
+    (answer ≡ target_answer (longwords_answer (length old) (address / 4) lines)) × (new ≡ buffer_filled (longwords_on (length old) (address / 4) lines) old)
+
+-- what holds of a target's address
+abbrev pub OfTarget : Place → (ℕ → Type 0) → Type 0
+OfTarget unclaimed P = Unit {0}
+OfTarget (table_fault fault) P = Unit {0}
+OfTarget (target address) P = P address
 
 abbrev pub piece_outcome : Control → Lines → Piece → PieceOutcome
 piece_outcome k lines p = outcome_located k.log lines p (located k.registers k.look_aside lines p.pci)

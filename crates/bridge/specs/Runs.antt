@@ -1,6 +1,7 @@
 -- A burst served piece by piece, and its answer.
-use Rattle.std.specs.Prelude.{ℕ, ◌+◌, Bool, true, false, List, [], ◌∷◌, ◌++◌, length, drop}
+use Rattle.std.specs.Prelude.{ℕ, ◌+◌, Bool, true, false, List, [], ◌∷◌, ◌++◌, length}
 use Rattle.memory.specs.Answers.{Answer, success, refusal}
+use Rattle.memory.specs.Longwords.{buffer_filled}
 use Rattle.bridge.specs.declared.bursts.WriteCounts.{WriteCounts}
 use Rattle.bridge.specs.Faults.{fault_line, fault_number}
 use Rattle.bridge.specs.Bursts.{Burst, Piece, card_read, card_write}
@@ -41,10 +42,6 @@ all_moved (words_stored count ∷ replies) = all_moved replies
 all_moved (words_dismissed count ∷ replies) = all_moved replies
 all_moved (no_window ∷ replies) = all_moved replies
 
--- they fill the buffer from its first place on; the rest of it stays
-abbrev pub buffer_filled : List ℕ → List ℕ → List ℕ
-buffer_filled words buffer = words ++ drop (length words) buffer
-
 -- a read that no piece ended succeeds; 4 returns how many longwords were moved, a fault also its PCI address and line
 abbrev pub answer_of_read : ℕ → List PieceReply → Answer
 answer_of_read moved [] = success []
@@ -84,7 +81,7 @@ abbrev pub burst_answer : Burst → List PieceReply → Answer
 burst_answer (card_read pci count buffer) replies = answer_of_read (length (all_moved replies)) replies
 burst_answer (card_write pci count words enables) replies = answer_of_write (counted replies) (met_no_window replies)
 
--- the buffer that a read was lent, afterwards; a write is lent none to fill
+-- the buffer that a read was lent, afterwards: the longwords fill it from its first place on; a write is lent none to fill
 abbrev pub burst_buffer : Burst → List PieceReply → List ℕ
 burst_buffer (card_read pci count buffer) replies = buffer_filled (all_moved replies) buffer
 burst_buffer (card_write pci count words enables) replies = []

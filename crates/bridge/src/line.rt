@@ -1,6 +1,6 @@
 // The bytes of one line, by longword and quadword, low end first.
 ghost use Rattle.std.specs.Prelude.{◌≡◌, ◌+◌, ◌*◌, ◌/◌, ◌%◌, ◌≤◌, take, drop};
-ghost use Rattle.bridge.specs.Longwords.{longword_at, quadword_at};
+ghost use Rattle.bridge.specs.Longwords.{quadword_at};
 
 // A place for a line, before one is read into it.
 pub(crate) const BLANK: [u8; 32] = [0; 32];
@@ -11,14 +11,6 @@ fn bytes_at<const N: usize>(line: &[u8; 32], offset: usize) -> [u8; N]
     ensures { result ≡ take N (drop offset line.now) }
 {
     line[offset..offset + N].try_into().unwrap()
-}
-
-// The longword at an offset.
-pub(crate) fn longword(line: &[u8; 32], offset: usize) -> u32
-    requires { offset + 4 ≤ 32 }
-    ensures { result ≡ longword_at line.now offset }
-{
-    u32::from_le_bytes(bytes_at(line, offset))
 }
 
 // The quadword of a line in which an address lies.

@@ -18,7 +18,7 @@ use Rattle.bridge.specs.Bits.{bits}
 use Rattle.bridge.specs.Bursts.{Burst, Piece, burst_start, card_read, cut, failed_check, in_line, is_unclaimed, misaligned, out_of_bounds, pieces, reading}
 use Rattle.bridge.specs.Calls.{burst_outcome}
 use Rattle.bridge.specs.Faults.{fault_line, fault_number, walk_line, walk_number}
-use Rattle.bridge.specs.Longwords.{longword_at, longwords}
+use Rattle.memory.specs.Longwords.{longword_at, longwords}
 use Rattle.bridge.specs.Pieces.{Edit, PieceOutcome, PieceReply, after_piece, edited, no_edit, no_window, outcome_at_content, outcome_at_place, piece_outcome, read_ended, words_moved}
 use Rattle.bridge.proofs.BurstRuns.{cut_by}
 use Rattle.bridge_laws.specs.Reads.{FaultAt, ReadAt, ReadEndsWith, ReadLaw, Reads, at_absent, at_absent_table, at_entry, at_fault, at_no_window, at_spoiled, at_spoiled_table, complete, serving}

@@ -8,7 +8,7 @@ use Rattle.bridge.specs.declared.log.Direction.{Direction}
 use Rattle.bridge.specs.declared.log.Direction.TheVariants.{Read}
 use Rattle.bridge.specs.Bursts.{Piece, card_read, failed_check, pieces}
 use Rattle.bridge.specs.Calls.{Outcome, card, performed}
-use Rattle.bridge.specs.Longwords.{longword_at}
+use Rattle.memory.specs.Longwords.{longword_at}
 use Rattle.bridge.specs.Pieces.{after_piece, piece_outcome}
 use Rattle.bridge.specs.State.{State}
 use Rattle.bridge.specs.Translation.{place_of, table_fault, target, unclaimed}

@@ -1,5 +1,9 @@
 pub mod PutParts
 pub mod LongwordMerges
+pub mod LongwordRuns
+pub mod TakenLongwords
+pub mod LaidRuns
 pub mod MarkCounts
 pub mod MarkLists
 pub mod MarkedLines
+pub mod MarkedReads

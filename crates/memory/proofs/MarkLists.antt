@@ -1,5 +1,5 @@
 -- Lists of marks: what the search for one finds, one more, one less.
-use Rattle.std.proofs.Common.{◌≡◌, ◌≢◌, ℕ, zero, suc, ◌<◌, ◌%◌, Bool, set, true, false, not, ◌&&◌, ◌||◌, eqb, get_or, List, [], ◌∷◌, ◌++◌, length, is_some, Some, None, Option, sym, refl, ap, ◌∙◌, ⊎_elim, arith}
+use Rattle.std.proofs.Common.{◌≡◌, ◌≢◌, ℕ, zero, suc, ◌<◌, ◌/◌, ◌%◌, Bool, set, true, false, not, ◌&&◌, ◌||◌, eqb, get_or, List, [], ◌∷◌, ◌++◌, length, is_some, Some, None, Option, sym, refl, ap, ◌∙◌, ⊎_elim, arith}
 use Rattle.std.specs.List.{remove}
 use Rattle.std.proofs.lemmas.List.{get_or-set_other, get_or-set_same}
 use Rattle.std.proofs.lemmas.Bool.{and_parts, cases_eq, cond-true, cond-false, cases_Bool, false≢true, eq-eqb, eqb-true, ne_eqb}
@@ -86,12 +86,8 @@ still_hinted hints i j l t =
     (λ ne. get_or-set_other hints i j true false ne ∙ t)
     (cases_eq j i)
 
-pub hinted_push : (marks : List Mark) (m : Mark) (hints : List Bool) → m.line % 256 < length hints → AllHinted marks hints → AllHinted (marks ++ m ∷ []) (set hints (m.line % 256) true)
+pub hinted_push : (marks : List Mark) (m : Mark) (hints : List Bool) → m.line / 8 % 4096 < length hints → AllHinted marks hints → AllHinted (marks ++ m ∷ []) (set hints (m.line / 8 % 4096) true)
 hinted_push marks m hints l h =
-    each_push marks m (λ k. get_or (set hints (m.line % 256) true) (k % 256) false)
-    (λ k t. still_hinted hints (m.line % 256) (k % 256) l (h k t))
-    (get_or-set_same hints (m.line % 256) true false l)
-
--- a line without a hint is not marked
-pub unhinted : (marks : List Mark) (hints : List Bool) (line : ℕ) → AllHinted marks hints → get_or hints (line % 256) false ≡ false → false ≡ marked marks line
-unhinted marks hints line h none = ⊎_elim (λ t. absurd (false≢true (sym none ∙ h line t))) sym (cases_Bool (marked marks line))
+    each_push marks m (λ k. get_or (set hints (m.line / 8 % 4096) true) (k / 8 % 4096) false)
+    (λ k t. still_hinted hints (m.line / 8 % 4096) (k / 8 % 4096) l (h k t))
+    (get_or-set_same hints (m.line / 8 % 4096) true false l)

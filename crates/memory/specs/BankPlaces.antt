@@ -1,15 +1,15 @@
 -- Where the lines of admitted banks lie.
-use Rattle.std.specs.Prelude.{◌≡◌, ℕ, ◌+◌, ◌-◌, ◌*◌, ◌/◌, ◌^◌, ◌<◌, ◌≤◌, true, ◌⊎◌, List, length, take, Some, None, Option, ◌≢◌, nat_le, nat_lt, refl}
+use Rattle.std.specs.Prelude.{◌≡◌, ℕ, zero, suc, ◌+◌, ◌-◌, ◌*◌, ◌/◌, ◌%◌, ◌^◌, ◌<◌, ◌≤◌, true, ◌⊎◌, List, length, take, Some, None, Option, ◌≢◌, nat_le, nat_lt, slice_index_or, refl}
 use Rattle.std.proofs.Common.{sym, ap, subst, ◌∙◌, inl, inr, ⊎_elim, mul_assoc, arith}
 use Rattle.std.proofs.lemmas.Nat.{div-add-mod', pow-add}
-use Rattle.std.proofs.lemmas.List.{get_or-take, length-take, take-take}
+use Rattle.std.proofs.lemmas.List.{get_or_default, get_or-take, length-take, take-take}
 use Rattle.std.proofs.lemmas.List.Sums.{sum_by_more, sum_by-take-le}
 use Rattle.std.proofs.lemmas.Bool.{and_cases, and_from, and_left, and_right, cases_Bool, cases_order, cond-true, cond-false, false≢true, le-leb, le-ltb, leb-false, lt-leb, lt-ltb, ltb-false}
 use Rattle.std.proofs.lemmas.Bool.Decides.{nat_tests}
 use Rattle.std.proofs.lemmas.Option.{none-some, same_Some}
 use Rattle.memory.specs.declared.banks.Bank.{Bank}
 use Rattle.memory.specs.Content.{is_present}
-use Rattle.memory.specs.Layouts.{Apart, at_place}
+use Rattle.memory.specs.Layouts.{Apart, LiesInRun, at_place}
 use Rattle.memory.specs.Rows.{Finds, first_index}
 use Rattle.memory.specs.Banks.{ExactBanks, InABank, PowerSize, Sound, SoundUntil, bank_offset, bank_places, banked, holds, nth, total}
 use Rattle.memory.specs.LinesAt.{inside_all}
@@ -138,6 +138,55 @@ module _ (banks : List Bank) (sound : SoundUntil banks (length banks)) where
   single : (j k address : ℕ) → j < length banks → k < length banks → holds (nth banks j) address ≡ true → holds (nth banks k) address ≡ true → j ≡ k
   single j k address p q t u =
       ⊎_elim (λ e. e) (λ o. ⊎_elim (λ lt. absurd (single_of j k address lt q t u)) (λ gt. absurd (single_of k j address gt p u t)) o) (cases_order j k)
+
+  -- the bytes of the banks before one are whole lines
+  whole_before : (i : ℕ) → i ≤ length banks → total (take i banks) % 32 ≡ 0
+  whole_before zero h = refl
+  whole_before (suc i) h =
+      let next = total_next banks i (omega arith) in
+      let size = (sound_lines (sound i (omega arith))).1.1 in
+      let whole = whole_before i (omega arith) in
+      ap (λ k. total (take k banks) % 32) (let e : suc i ≡ i + 1 = omega arith in e) ∙ omega (arith, next, size, whole)
+
+  -- a line whose address a bank holds lies in it
+  in_bank : (line i : ℕ) → i < length banks → holds (nth banks i) (32 * line) ≡ true → bank_places banks line ≡ Some (total (take i banks) + (32 * line - (nth banks i).base))
+  in_bank line i within held =
+      let fits = line_fits (sound i within) line held in
+      let below = (sound i within).below in
+      let low : line < 0xC000000 = omega arith in
+      cond-true _ _ _ (lt-ltb _ _ low) ∙ found _ (first_finds (λ b. holds b (32 * line)) banks)
+    where
+      found : (o : Option ℕ) → Finds (λ b. holds b (32 * line)) banks o → bank_offset banks (32 * line) o ≡ Some (total (take i banks) + (32 * line - (nth banks i).base))
+      found None f = absurd (false≢true (sym (f i _ (omega arith) within) ∙ held))
+      found (Some j) f = ap (λ k. Some (total (take k banks) + (32 * line - (nth banks k).base))) (single j i (32 * line) f.0 within (f.1 _) held)
+
+  -- the lines from one on up to the end of its bank lie one behind another
+  pub run_by : (line i : ℕ) → Finds (λ b. holds b (line * 32)) banks (Some i)
+      → LiesInRun (bank_places banks) line (Some (record { at = total (take i banks) + (line * 32 - (nth banks i).base); end = total (take i banks) + (nth banks i).size }))
+  run_by line i f =
+      let held : holds (nth banks i) (32 * line) ≡ true = ap (holds (nth banks i)) (let e : 32 * line ≡ line * 32 = omega arith in e) ∙ f.1 _ in
+      let fits = line_fits (sound i f.0) line held in
+      let lines = sound_lines (sound i f.0) in
+      let whole = whole_before i (omega (arith, f.0)) in (
+        omega (arith, lines.0.1, whole),
+        omega (arith, lines.1.1, whole),
+        omega (arith, fits),
+        λ k h.
+            let next : holds (nth banks i) (32 * (line + k)) ≡ true =
+            and_from _ _ (le-leb (nth banks i).base (32 * (line + k)) (omega arith)) (lt-ltb (32 * (line + k)) ((nth banks i).base + (nth banks i).size) (omega (arith, lines.0.1, lines.1.1, whole, fits))) in
+            in_bank (line + k) i f.0 next ∙ ap Some (let e : total (take i banks) + (32 * (line + k) - (nth banks i).base) ≡ total (take i banks) + (line * 32 - (nth banks i).base) + 32 * k = omega arith in e),
+      )
+
+  -- a bank that holds an address is the one that a search finds
+  pub held_by : (k address : ℕ) → k < length banks → holds (nth banks k) address ≡ true → Finds (λ b. holds b address) banks (Some k)
+  held_by k address within held = (
+    within,
+    (λ d. ap (λ b. holds b address) (get_or_default banks k d _ within) ∙ held),
+    λ j d from near. ⊎_elim
+        (λ t. absurd (single_of j k address near within (ap (λ b. holds b address) (get_or_default banks j _ d (omega arith)) ∙ t) held))
+        (λ f. f)
+        (cases_Bool (holds (slice_index_or banks j d) address)),
+  )
 
   present_from : (bytes : List ℕ) (address : ℕ) (o : Option ℕ) → bank_places banks (address / 32) ≡ o → is_present (at_place bytes o) ≡ true → InABank banks address
   present_from bytes address None e t = absurd (false≢true t)

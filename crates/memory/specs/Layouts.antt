@@ -1,5 +1,6 @@
 -- Memories whose lines lie in one run of bytes, each at its own place.
-use Rattle.std.specs.Prelude.{◌≡◌, ℕ, ◌+◌, ◌*◌, ◌≤◌, cond, ◌⊎◌, List, take, drop, Some, None, Option, ◌≢◌, nat_le, nat_lt}
+use Rattle.std.specs.Prelude.{◌≡◌, ℕ, ◌+◌, ◌*◌, ◌%◌, ◌<◌, ◌≤◌, cond, ◌⊎◌, List, take, drop, Some, None, Option, ◌≢◌, nat_le, nat_lt}
+use Rattle.memory.specs.declared.layout.Run.{Run}
 use Rattle.memory.specs.Content.{Content, Lines, absent, good}
 
 -- where each line begins, if it lies anywhere
@@ -13,6 +14,13 @@ Apart place = (j k a b : ℕ) → place j ≡ Some a → place k ≡ Some b → 
 -- no line from C000000h up has a place
 abbrev pub PlacedBelow : Places → Type 0
 PlacedBelow place = (line : ℕ) → 0xC000000 ≤ line → place line ≡ None
+
+-- What a layout tells of a line: that it lies nowhere; or a run of whole lines, one behind another from this one on, each at a
+-- multiple of 32. Where the run ends is open: it has this line at least.
+abbrev pub LiesInRun : Places → ℕ → Option Run → Type 0
+LiesInRun place line None = place line ≡ None
+LiesInRun place line (Some run) =
+    (run.at % 32 ≡ 0) × (run.end % 32 ≡ 0) × (run.at < run.end) × ((k : ℕ) → run.at + 32 * k < run.end → place (line + k) ≡ Some (run.at + 32 * k))
 
 -- a line counts only if all of its 32 bytes lie within n bytes
 abbrev pub inside : ℕ → Option ℕ → Option ℕ

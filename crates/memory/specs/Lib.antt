@@ -10,4 +10,5 @@ pub mod BankRules
 pub mod Powers
 pub mod BankPlaces
 pub mod LinesAt
+pub mod Longwords
 pub mod Searches

@@ -1,5 +1,5 @@
 -- Marks: a layer that spoils up to 32 lines of the memory below.
-use Rattle.std.specs.Prelude.{◌≡◌, ℕ, Bool, true, false, cond, not, ◌&&◌, AllPairs, List, [], ◌∷◌, ◌++◌, length, ◌%◌, ◌==◌, ◌≢◌, get_or, nat_le}
+use Rattle.std.specs.Prelude.{◌≡◌, ℕ, Bool, true, false, cond, not, ◌&&◌, AllPairs, List, [], ◌∷◌, ◌++◌, length, ◌/◌, ◌%◌, ◌==◌, ◌≢◌, get_or, nat_le}
 use Rattle.std.specs.List.{count_by, list_any, range_with_len}
 use Rattle.memory.specs.declared.marks.Mark.{Mark}
 use Rattle.memory.specs.declared.marks.MarkRefusal.{MarkRefusal}
@@ -29,7 +29,7 @@ AllPresent marks lines = (line : ℕ) → marked marks line ≡ true → is_pres
 
 -- the table that is asked before the marks are searched: no marked line is missed
 abbrev pub AllHinted : List Mark → List Bool → Type 0
-AllHinted marks hints = (line : ℕ) → marked marks line ≡ true → get_or hints (line % 256) false ≡ true
+AllHinted marks hints = (line : ℕ) → marked marks line ≡ true → get_or hints (line / 8 % 4096) false ≡ true
 
 -- 14 for an absent line, then 17 for a 33rd mark; a marked line again adds nothing
 abbrev pub mark_cause : MarkRefusal → Cause

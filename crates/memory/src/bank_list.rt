@@ -2,9 +2,11 @@
 ghost use Rattle.std.specs.Prelude.{◌≡◌, ℕ, ◌^◌, ◌<◌, ◌≤◌, length, take, None, IfOk, slice_index};
 ghost use Rattle.std.specs.Result.{result_err};
 ghost use Rattle.memory.specs.Answers.{answered, no_values};
-ghost use Rattle.memory.specs.Banks.{BankListsJudged, list_answer, list_cause, list_fault, total};
+ghost use Rattle.memory.specs.Banks.{BankListsJudged, holds, list_answer, list_cause, list_fault, total};
+ghost use Rattle.memory.specs.Rows.{Finds};
 
-use crate::banks::{Bank, BankListRefusal, check, starts_of};
+use crate::banks::{Bank, BankListRefusal, check, guesses_of, smallest_bits, starts_of};
+use crate::rows::{Row, find};
 
 // One to eight banks, laid one behind the other in `room` bytes, with the place where each begins there. An array with its count is
 // `Copy`, and allocates nothing.
@@ -14,6 +16,9 @@ pub struct BankList {
     starts: [usize; 8],
     count: usize,
     room: usize,
+    // Which bank may hold an address, by six bits of it from `shift` up: it is looked at before the others, and may be the wrong one.
+    guesses: [usize; 64],
+    shift: u32,
     ghost few: { count ≤ 8 },
     ghost behind: { (k : ℕ) → k < count → slice_index starts k ≡ total (take k banks) },
     ghost faultless: { list_fault (take count banks) room ≡ None },
@@ -31,6 +36,7 @@ impl BankList {
     {
         check(banks, n)?;
         let starts = starts_of(banks);
+        let shift = smallest_bits(banks);
         let count = banks.len();
         let mut kept = [Bank::default(); 8];
         kept[..count].copy_from_slice(banks);
@@ -39,6 +45,8 @@ impl BankList {
             starts,
             count,
             room: n,
+            guesses: guesses_of(banks, shift),
+            shift,
         })
     }
 
@@ -52,6 +60,19 @@ impl BankList {
         ensures { result.now ≡ banks_of self.now }
     {
         &self.banks[..self.count]
+    }
+
+    // The index of the bank that holds an address, if one does. Mostly it is the one that was guessed, and no other can hold it too.
+    #[inline(always)]
+    pub(crate) fn find(&self, address: u64) -> Option<usize>
+        ensures { Finds (λ bank. holds bank address) (banks_of self.now) result }
+    {
+        let banks = self.as_slice();
+        let guess = self.guesses[(address.wrapping_shr(self.shift) % 64) as usize];
+        if guess < banks.len() && banks[guess].answers(address) {
+            return Some(guess);
+        }
+        find(banks, address)
     }
 
     // Where the bytes of a bank begin among those of all banks.

@@ -7,8 +7,7 @@ ghost use Rattle.memory.specs.BankPlaces.{places_apart};
 ghost use Rattle.std.proofs.Common.{rules, arith};
 
 use crate::bank_list::BankList;
-use crate::layout::{LINES, Laid, Layout};
-use crate::rows::find;
+use crate::layout::{LINES, Laid, Layout, Run};
 use std::alloc::{AllocError, Global};
 
 impl Layout for BankList {
@@ -18,14 +17,18 @@ impl Layout for BankList {
 
     ghost below = { Prim.search rules };
 
-    fn place_of(&self, line: u64) -> Option<usize> {
+    fn run_of(&self, line: u64) -> Option<Run> {
         if line >= LINES {
             return None;
         }
         let address = line * 32;
-        let banks = self.as_slice();
-        let i = find(banks, address)?;
-        Some(self.start(i) + (address - banks[i].base) as usize)
+        let i = self.find(address)?;
+        let bank = self.as_slice()[i];
+        let begin = self.start(i);
+        Some(Run {
+            at: begin + (address - bank.base) as usize,
+            end: begin + bank.size as usize,
+        })
     }
 }
 

@@ -150,3 +150,26 @@ pub(crate) fn starts_of(banks: &[Bank]) -> [usize; 8]
     }
     starts
 }
+
+// How many bits an address has within the smallest bank.
+pub(crate) fn smallest_bits(banks: &[Bank]) -> u32 {
+    banks
+        .iter()
+        .map(|bank| bank.size.trailing_zeros())
+        .min()
+        .unwrap_or(0)
+}
+
+// For each number of six bits a bank that has an address with these bits from `shift` up, if one has. They spare a search, and
+// nothing rests on them.
+pub(crate) fn guesses_of(banks: &[Bank], shift: u32) -> [usize; 64] {
+    let mut guesses = [0; 64];
+    for (k, guess) in guesses.iter_mut().enumerate() {
+        let near = banks.iter().position(|bank| {
+            let first = bank.base.wrapping_shr(shift);
+            (k as u64).wrapping_sub(first) % 64 < bank.size.wrapping_shr(shift)
+        });
+        *guess = near.unwrap_or(0);
+    }
+    guesses
+}

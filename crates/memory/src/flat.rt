@@ -4,7 +4,7 @@ ghost use Rattle.memory.specs.Layers.{lines_laid};
 ghost use Rattle.memory.specs.Layouts.{flat, from_zero};
 ghost use Rattle.std.proofs.Common.{rules};
 
-use crate::layout::{LINES, Laid, Layout};
+use crate::layout::{LINES, Laid, Layout, Run};
 use std::alloc::{AllocError, Global};
 
 // Line k begins at byte 32 k.
@@ -18,8 +18,11 @@ impl Layout for FromZero {
 
     ghost below = { Prim.search rules };
 
-    fn place_of(&self, line: u64) -> Option<usize> {
-        (line < LINES).then(|| line as usize * 32)
+    fn run_of(&self, line: u64) -> Option<Run> {
+        (line < LINES).then(|| Run {
+            at: line as usize * 32,
+            end: LINES as usize * 32,
+        })
     }
 }
 

@@ -11,8 +11,11 @@ pub mod marks;
 pub mod refusals;
 pub mod rows;
 
-ghost use Rattle.std.specs.Prelude.{◌≡◌, ℕ};
+ghost use Rattle.std.specs.Prelude.{◌≡◌, ℕ, length};
 ghost use Rattle.memory.specs.Content.{Bounded, Lines, Whole, is_present, memory_line, read_answer, read_place, write_answer, written};
+ghost use Rattle.memory.specs.Longwords.{buffer_filled, longwords_answer, longwords_on};
+
+use crate::line::copy_longwords;
 
 // Why a memory refuses a line, with the line's number.
 #[derive(Clone, Copy, Debug, PartialEq, Eq)]
@@ -45,6 +48,25 @@ pub trait Memory {
     fn read(&self, line: u64, place: &mut [u8; 32]) -> Result<(), MemoryFault>
         ensures answer { result ≡ read_answer line (content self.now line) }
         ensures place { place.new ≡ read_place (content self.now line) place.old };
+
+    // Fills the place with longwords, number `first` and those after it, as far as their lines are good, and says how many. Longword n
+    // is longword n % 8 of line n / 8. Refuses a first line that is not good, and leaves the place. A memory that finds several
+    // lines at once gives a quicker body.
+    fn read_longwords(&self, first: u64, place: &mut [u32]) -> Result<usize, MemoryFault>
+        ensures answer { result ≡ longwords_answer (length place.old) first (content self.now) }
+        ensures place { place.new ≡ buffer_filled (longwords_on (length place.old) first (content self.now)) place.old }
+    {
+        let mut line = first / 8;
+        let mut bytes = [0; 32];
+        self.read(line, &mut bytes)?;
+        let mut moved = copy_longwords(&bytes, 4 * (first % 8) as usize, 32, place);
+        line += 1;
+        while moved < place.len() && self.read(line, &mut bytes).is_ok() {
+            moved += copy_longwords(&bytes, 0, 32, &mut place[moved..]);
+            line += 1;
+        }
+        Ok(moved)
+    }
 
     // Writes byte i of a line where bit i of the mask is set; refuses an absent line. No other line changes.
     fn write(&mut self, line: u64, bytes: &[u8; 32], mask: u32) -> Result<(), MemoryFault>

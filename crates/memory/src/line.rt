@@ -1,7 +1,8 @@
-// The 32 bytes of one line inside a run of bytes.
-ghost use Rattle.std.specs.Prelude.{◌≡◌, ℕ, ◌+◌, ◌<◌, ◌≤◌, cond, length, take, drop, slice_index};
+// The 32 bytes of one line inside a run of bytes, and its longwords.
+ghost use Rattle.std.specs.Prelude.{◌≡◌, ℕ, ◌+◌, ◌-◌, ◌*◌, ◌/◌, ◌<◌, ◌≤◌, cond, length, min, take, drop, slice_index};
 ghost use borrow.Rule.Slice.PartMut.{put_mid};
 ghost use Rattle.memory.specs.Content.{bit, merged};
+ghost use Rattle.memory.specs.Longwords.{buffer_filled, longword_at, longwords};
 
 // Puts the bytes whose mask bit is set into four bytes of a line, from `first` on. Each byte is chosen without a branch, since the
 // bits of a mask are hard to foretell.
@@ -33,6 +34,41 @@ fn merge(line: &mut [u8], new: &[u8; 32], mask: u32)
             merge_longword(&mut line[4 * k..4 * k + 4], 4 * k, new, mask);
         }
     }
+}
+
+// The longword at an offset.
+fn longword(bytes: &[u8], offset: usize) -> u32
+    requires { offset + 4 ≤ length bytes.now }
+    ensures { result ≡ longword_at bytes.now offset }
+{
+    u32::from_le_bytes(bytes[offset..offset + 4].try_into().unwrap())
+}
+
+// Fills the place with longwords from an offset of some bytes on. Many bursts have one longword: then the compiler knows how much is
+// copied.
+fn take_longwords(bytes: &[u8], offset: usize, place: &mut [u32])
+    requires { offset + 4 * length place.old ≤ length bytes.now }
+    ensures { place.new ≡ longwords (length place.old) offset bytes.now }
+{
+    if place.len() == 1 {
+        place[0] = longword(bytes, offset);
+    } else {
+        for (k, word) in place.iter_mut().enumerate() {
+            *word = longword(bytes, offset + 4 * k);
+        }
+    }
+}
+
+// Fills the place with the longwords between two offsets of some bytes, as many as it has room for, and says how many.
+#[inline(always)]
+pub(crate) fn copy_longwords(bytes: &[u8], from: usize, to: usize, place: &mut [u32]) -> usize
+    requires { (from ≤ to) × (to ≤ length bytes.now) }
+    ensures count { result ≡ min ((to - from) / 4) (length place.old) }
+    ensures place { place.new ≡ buffer_filled (longwords result from bytes.now) place.old }
+{
+    let count = ((to - from) / 4).min(place.len());
+    take_longwords(bytes, from, &mut place[..count]);
+    count
 }
 
 // Copies the line that begins at `at` into a place.

@@ -1,5 +1,5 @@
 // A layer of marked lines over any memory.
-ghost use Rattle.std.specs.Prelude.{◌≡◌, ◌≤◌, [], IfOk, vec_len, vec_capacity, ◌==◌};
+ghost use Rattle.std.specs.Prelude.{◌≡◌, ℕ, ◌+◌, ◌/◌, ◌^◌, ◌<◌, ◌≤◌, true, false, [], IfOk, vec_len, vec_capacity, ◌==◌};
 ghost use Rattle.memory.specs.Answers.{answered, no_values};
 ghost use Rattle.memory.specs.Content.{write_answer, written};
 ghost use Rattle.memory.specs.Marked.{AllHinted, AllPresent, Distinct, NeverSpoiled, lines_marked, mark_answer, mark_answer_of_lines, mark_cause, marked, marks_written, with_mark, without};
@@ -51,8 +51,9 @@ impl Refusal for MarkRefusal {
 pub struct Marks<M: Memory> {
     below: M,
     marks: Vec<Mark>,
-    // By the low eight bits of a line, whether a marked line may have them: most lines are told unmarked without a search.
-    hints: [bool; 256],
+    // Whether one of eight lines may be marked, by the low twelve bits of their number: most lines are told unmarked without a search,
+    // and eight at a time.
+    hints: [bool; 4096],
     ghost room: { 32 ≤ vec_capacity marks },
     ghost few: { vec_len marks ≤ 32 },
     ghost apart: { Distinct marks.items },
@@ -71,7 +72,7 @@ impl<M: Memory> Marks<M> {
         ensures content { IfOk result (λ m. lines_under M.Memory.content m ≡ M.Memory.content below) }
     {
         let marks = Vec::with_capacity(heap, MOST)?;
-        let hints = [false; 256];
+        let hints = [false; 4096];
         Ok(Marks {
             below,
             marks,
@@ -79,10 +80,39 @@ impl<M: Memory> Marks<M> {
         })
     }
 
+    // Whether a marked line may be among the eight of a line.
+    fn may_be_marked(&self, line: u64) -> bool
+        ensures { result ≡ false → (k : ℕ) → k / 8 ≡ line / 8 → marked (marks_of self.now) k ≡ false }
+    {
+        self.hints[(line / 8 % 4096) as usize]
+    }
+
     fn is_marked(&self, line: u64) -> bool
         ensures { result ≡ marked (marks_of self.now) line }
     {
-        self.hints[(line % 256) as usize] && find(&self.marks, line).is_some()
+        self.may_be_marked(line) && find(&self.marks, line).is_some()
+    }
+
+    // How many of some longwords lie in front of the first marked line, where that of the first one is not marked.
+    fn unmarked_from(&self, first: u64, count: usize) -> usize
+        requires unmarked { marked (marks_of self.now) (first / 8) ≡ false }
+        requires narrow { count < 2 ^ 63 }
+        ensures most { result ≤ count }
+        ensures before { (n : ℕ) → n < result → marked (marks_of self.now) ((first + n) / 8) ≡ false }
+        ensures next { result < count → marked (marks_of self.now) ((first + result) / 8) ≡ true }
+    {
+        let mut next = first / 8 + 1;
+        let mut end = 8 - (first % 8) as usize;
+        while end < count && !self.is_marked(next) {
+            let lines = if self.may_be_marked(next) {
+                1
+            } else {
+                8 - next % 8
+            };
+            next += lines;
+            end += 8 * lines as usize;
+        }
+        end.min(count)
     }
 
     // Removes the mark of a line, if it has one.
@@ -113,7 +143,7 @@ impl<M: Memory> Marks<M> {
             return Err(MarkRefusal::Full);
         }
         self.marks.push_reserved(Mark { line });
-        self.hints[(line % 256) as usize] = true;
+        self.hints[(line / 8 % 4096) as usize] = true;
         Ok(())
     }
 }
@@ -137,6 +167,15 @@ impl<M: Memory> Memory for Marks<M> {
             return Err(MemoryFault::Spoiled(line));
         }
         self.below.read(line, place)
+    }
+
+    // The lines in front of the first marked one are read below at once.
+    fn read_longwords(&self, first: u64, place: &mut [u32]) -> Result<usize, MemoryFault> {
+        if self.is_marked(first / 8) {
+            return Err(MemoryFault::Spoiled(first / 8));
+        }
+        let count = self.unmarked_from(first, place.len());
+        self.below.read_longwords(first, &mut place[..count])
     }
 
     // The memory below gets the same write; a full one removes the line's mark.

@@ -172,6 +172,93 @@ mod tests {
         assert_eq!(rt; refused(&eight, 0x4001_1fff), Some(BankListRefusal::Total));
     }
 
+    // Two lines and most of a third.
+    #[test]
+    fn longwords_are_read_up_to_the_first_line_that_is_not_good(
+        rt: HostRuntime,
+    ) -> Result<(), Fail> {
+        let mut m = Flat::zeros(rt.alloc(), 95)?;
+        assert_eq!(rt; m.write(1, &[9; 32], 0xff), Ok(()));
+        let mut place = [7; 10];
+        assert_eq!(rt; m.read_longwords(7, &mut place), Ok(9));
+        assert_eq!(rt; place, [0, 0x0909_0909, 0x0909_0909, 0, 0, 0, 0, 0, 0, 7]);
+        assert_eq!(rt;
+            m.read_longwords(16, &mut place),
+            Err(MemoryFault::Absent(2))
+        );
+        assert_eq!(rt;
+            m.read_longwords(u64::MAX, &mut place),
+            Err(MemoryFault::Absent(u64::MAX / 8))
+        );
+        assert_eq!(rt; place[0], 0);
+        assert_eq!(rt; m.read_longwords(15, &mut place[..0]), Ok(0));
+        assert_eq!(rt;
+            m.read_longwords(16, &mut place[..0]),
+            Err(MemoryFault::Absent(2))
+        );
+        Ok(())
+    }
+
+    // The addresses of the first bank follow those of the second.
+    #[test]
+    fn longwords_are_read_from_one_bank_into_another(rt: HostRuntime) -> Result<(), Fail> {
+        let banks = [bank(0x2000, 0x2000), bank(0, 0x2000), bank(0x8000, 0x8000)];
+        let mut m = Banked::zeros(rt.alloc(), BankList::new(&banks, 0xc000)?)?;
+        assert_eq!(rt; m.write(0xff, &[1; 32], ONES), Ok(()));
+        assert_eq!(rt; m.write(0x100, &[2; 32], ONES), Ok(()));
+        assert_eq!(rt; m.write(0x1ff, &[3; 32], ONES), Ok(()));
+        let mut place = [7; 5];
+        assert_eq!(rt; m.read_longwords(0x7fd, &mut place), Ok(5));
+        assert_eq!(rt;
+            place,
+            [
+                0x0101_0101,
+                0x0101_0101,
+                0x0101_0101,
+                0x0202_0202,
+                0x0202_0202
+            ]
+        );
+        assert_eq!(rt; m.read_longwords(0xffe, &mut place), Ok(2));
+        assert_eq!(rt;
+            place,
+            [
+                0x0303_0303,
+                0x0303_0303,
+                0x0101_0101,
+                0x0202_0202,
+                0x0202_0202
+            ]
+        );
+        assert_eq!(rt;
+            m.read_longwords(0x1000, &mut place),
+            Err(MemoryFault::Absent(0x200))
+        );
+        Ok(())
+    }
+
+    // Lines 2 and 8002h have the same hint.
+    #[test]
+    fn longwords_are_read_up_to_a_marked_line(rt: HostRuntime) -> Result<(), Fail> {
+        let mut m = Marks::new(rt.alloc(), Flat::zeros(rt.alloc(), 0x8003 * 32)?)?;
+        let mut place = [7; 64];
+        assert_eq!(rt; m.mark(0x8002), Ok(()));
+        assert_eq!(rt; m.read_longwords(3, &mut place), Ok(64));
+        assert_eq!(rt; place[63], 0);
+        assert_eq!(rt; m.mark(2), Ok(()));
+        let mut place = [7; 64];
+        assert_eq!(rt; m.read_longwords(3, &mut place), Ok(13));
+        assert_eq!(rt; place[12], 0);
+        assert_eq!(rt; place[13], 7);
+        assert_eq!(rt;
+            m.read_longwords(16, &mut place),
+            Err(MemoryFault::Spoiled(2))
+        );
+        assert_eq!(rt; m.read_longwords(24, &mut place), Ok(64));
+        assert_eq!(rt; m.read_longwords(0x8001 * 8, &mut place), Ok(8));
+        Ok(())
+    }
+
     // Line 100h is line 0 of the memory below, which has two lines.
     #[test]
     fn a_shifted_memory_begins_at_its_first_line(rt: HostRuntime) -> Result<(), Fail> {
@@ -194,6 +281,26 @@ mod tests {
             Err(MemoryFault::Absent(0x102))
         );
         assert_eq!(rt; place[0], 7);
+        let mut words = [7; 9];
+        assert_eq!(rt; m.read_longwords(0x80b, &mut words), Ok(5));
+        assert_eq!(rt;
+            words,
+            [
+                0x0404_0404,
+                0x0404_0404,
+                0x0404_0404,
+                0x0404_0404,
+                0x0404_0404,
+                7,
+                7,
+                7,
+                7
+            ]
+        );
+        assert_eq!(rt;
+            m.read_longwords(0x7ff, &mut words),
+            Err(MemoryFault::Absent(0xff))
+        );
         Ok(())
     }
 
