@@ -4,19 +4,22 @@ ghost use Rattle.std.specs.Prelude.{◌<◌, ◌≤◌};
 use crate::checksum::Checksum;
 use crate::errors::SpeedError;
 use crate::memories::PAGES;
-use crate::random::Random;
 use crate::rows::{Row, Through};
 use bridge::Bridge;
 use bridge::bursts::{ReadRefusal, WriteCounts, WriteRefusal};
 use bridge::log::Direction;
 use memory::Memory;
 use memory::refusals::Refusal;
+use seeded::Random;
 use std::alloc::Global;
 use std::rt::Clock;
 use std::time::{Duration, Instant};
 
 // The bursts of a round.
 const BURSTS: usize = 64;
+
+// The seed of the bytes of a memory, and of its bursts.
+const SEED: u64 = 0x2545_f491_4f6c_dd1d;
 
 // The plain window holds PCI 4000_0000h to 400F_FFFFh and leads to address 0 and up, the mapped one PCI 8000_0000h to
 // 800F_FFFFh.
@@ -76,12 +79,9 @@ fn table_line(first: u64) -> [u8; 32] {
     line
 }
 
-fn random_line(random: &mut Random) -> [u8; 32] {
-    let mut line = [0; 32];
-    for byte in line.iter_mut() {
-        *byte = (random.next() >> 56) as u8;
-    }
-    line
+// The upper four bits of the next number.
+fn random_enable(random: &mut Random) -> u8 {
+    (random.next() >> 60) as u8
 }
 
 // Opens both windows of a new bridge. Their masks, and the translated base of the first, stay 0.
@@ -95,7 +95,7 @@ fn open_windows<M: Memory>(bridge: &mut Bridge<M>) -> Result<(), SpeedError> {
 // Stores random bytes into the pages that the bursts reach.
 fn fill<M: Memory>(bridge: &mut Bridge<M>, random: &mut Random) -> Result<(), SpeedError> {
     for line in 0..PAGES * 256 {
-        bridge.store(line * 32, &random_line(random))?;
+        bridge.store(line * 32, &random.line())?;
     }
     Ok(())
 }
@@ -150,9 +150,9 @@ impl Job {
 
     // One burst of two has all bytes enabled, the other random ones.
     fn make_enables(&mut self, count: usize, random: &mut Random) {
-        let all = random.enable() % 2 == 0;
+        let all = random_enable(random) % 2 == 0;
         for enable in self.enables.iter_mut().take(count) {
-            *enable = if all { 15 } else { random.enable() };
+            *enable = if all { 15 } else { random_enable(random) };
         }
     }
 
@@ -236,7 +236,7 @@ fn run_rounds<M: Memory, R: Clock>(
     times: &mut [u64],
     sum: &mut Checksum,
 ) -> Result<(), SpeedError> {
-    let mut random = Random::seeded();
+    let mut random = Random::new(SEED);
     let mut turn = 0;
     for time in times.iter_mut() {
         make_all(jobs, row, &mut random, turn);
@@ -292,7 +292,7 @@ pub(crate) fn run_row<M: Memory + Drop, R: Clock>(
 ) -> Result<Outcome, SpeedError> {
     let mut bridge = Bridge::new(memory);
     open_windows(&mut bridge)?;
-    fill(&mut bridge, &mut Random::seeded())?;
+    fill(&mut bridge, &mut Random::new(SEED))?;
     store_table(&mut bridge)?;
     let mut jobs = vec![in heap; EMPTY; BURSTS]?;
     let mut times = vec![in heap; 0; rounds]?;

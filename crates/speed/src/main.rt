@@ -7,7 +7,6 @@ mod checksum;
 mod errors;
 mod load;
 mod memories;
-mod random;
 mod rows;
 
 use checksum::Checksum;

@@ -2,9 +2,10 @@
 mod cards;
 mod driver;
 
+use crate::draws::Draws;
 use crate::places::Side;
-use crate::random::Random;
 use bridge::calls::{Call, Request, Step};
+use seeded::Random;
 use std::alloc::{AllocError, Global};
 
 const SEED: u64 = 0x2107_1da0_2107_1da1;

@@ -3,11 +3,11 @@
 
 mod account;
 mod calls;
+mod draws;
 mod hidden;
 mod memories;
 mod pair;
 mod places;
-mod random;
 mod runs;
 
 use anyhow::Result;

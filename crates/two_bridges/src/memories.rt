@@ -1,12 +1,12 @@
 // The two memories: the same lines are there, and they hold the same outside hidden pages.
 use crate::places::{BANKS, PAGE_BYTES, PAGE_LINES, PAGES, Side, TABLE_PAGE, is_hidden_line};
-use crate::random::Random;
 use anyhow::{Result, anyhow};
 use memory::Memory;
 use memory::bank_list::BankList;
 use memory::banked::Banked;
 use memory::flat::Flat;
 use memory::marks::Marks;
+use seeded::Random;
 use std::alloc::Global;
 
 // Lines of hidden pages that are marked on the right alone. The last two digits of a line are its place in the page.

@@ -1,7 +1,8 @@
 // What cards ask.
 use super::CallList;
-use crate::random::Random;
+use crate::draws::Draws;
 use bridge::calls::{Burst, Call};
+use seeded::Random;
 use std::alloc::{AllocError, Global};
 
 // Places in a page: its first line, the end of a line, and its last two lines.
@@ -13,9 +14,9 @@ const UNTOUCHED: u32 = 0x7777_7777;
 // A place in a page, mostly at a multiple of 4.
 fn place(random: &mut Random) -> u32 {
     match random.below(20) {
-        0 => random.word() % 0x2000,
+        0 => random.longword() % 0x2000,
         1..=9 => random.pick(&PAGE_PLACES),
-        _ => random.word() % 0x800 * 4,
+        _ => random.longword() % 0x800 * 4,
     }
 }
 
@@ -66,7 +67,7 @@ fn longwords(random: &mut Random, count: usize) -> usize {
 fn words(heap: Global, random: &mut Random, n: usize) -> Result<Vec<u32>, AllocError> {
     let mut words = Vec::new(heap);
     for _ in 0..n {
-        words.push(random.word())?;
+        words.push(random.longword())?;
     }
     Ok(words)
 }

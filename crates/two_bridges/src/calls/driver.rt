@@ -2,11 +2,12 @@
 ghost use Rattle.std.specs.Prelude.{◌<◌, length};
 
 use super::CallList;
+use crate::draws::Draws;
 use crate::places::{
     ENTRY_PAGES, HIDDEN, OPEN_PAGES, TABLE_LINES, TABLE_PAGE, WINDOWS, line_address,
 };
-use crate::random::Random;
 use bridge::calls::Request;
+use seeded::Random;
 use std::alloc::AllocError;
 
 // Numbers of registers that set up no window: read only ones, those that invalidate rows and name decoding, and unlisted ones.
@@ -74,7 +75,7 @@ impl CallList {
     // Writes a register that sets up no window.
     pub(super) fn change_register(&mut self) -> Result<(), AllocError> {
         let n = self.random.pick(&OTHER_REGISTERS);
-        let value = self.random.word();
+        let value = self.random.longword();
         self.write_register(n, value)
     }
 
