@@ -95,6 +95,11 @@ mod tests {
         for line in 0..32 {
             assert_eq!(rt; m.mark(line), Ok(()));
         }
+        let mut place = [7; 32];
+        for line in 0..32 {
+            assert_eq!(rt; m.read(line, &mut place), Err(MemoryFault::Spoiled(line)));
+        }
+        assert_eq!(rt; m.read(32, &mut place), Ok(()));
         assert_eq!(rt; m.mark(0), Ok(()));
         assert_eq!(rt; m.mark(32), Err(MarkRefusal::Full));
         assert_eq!(rt; m.mark(40), Err(MarkRefusal::Absent));
@@ -237,12 +242,34 @@ mod tests {
         Ok(())
     }
 
+    // The addresses of three banks follow one another.
+    #[test]
+    fn longwords_are_read_from_three_banks(rt: HostRuntime) -> Result<(), Fail> {
+        let banks = [bank(0, 0x2000), bank(0x4000, 0x2000), bank(0x2000, 0x2000)];
+        let mut m = Banked::zeros(rt.alloc(), BankList::new(&banks, 0x6000)?)?;
+        assert_eq!(rt; m.write(0xff, &[1; 32], ONES), Ok(()));
+        assert_eq!(rt; m.write(0x100, &[2; 32], ONES), Ok(()));
+        assert_eq!(rt; m.write(0x200, &[3; 32], ONES), Ok(()));
+        let mut place = [7; 2058];
+        assert_eq!(rt; m.read_longwords(0x7ff, &mut place), Ok(2058));
+        assert_eq!(rt; place[0], 0x0101_0101);
+        assert_eq!(rt; place[1], 0x0202_0202);
+        assert_eq!(rt; place[2048], 0);
+        assert_eq!(rt; place[2049], 0x0303_0303);
+        assert_eq!(rt; place[2057], 0);
+        Ok(())
+    }
+
     // Lines 2 and 8002h have the same hint.
     #[test]
     fn longwords_are_read_up_to_a_marked_line(rt: HostRuntime) -> Result<(), Fail> {
         let mut m = Marks::new(rt.alloc(), Flat::zeros(rt.alloc(), 0x8003 * 32)?)?;
         let mut place = [7; 64];
         assert_eq!(rt; m.mark(0x8002), Ok(()));
+        assert_eq!(rt;
+            m.read_longwords(0x4_0010, &mut place),
+            Err(MemoryFault::Spoiled(0x8002))
+        );
         assert_eq!(rt; m.read_longwords(3, &mut place), Ok(64));
         assert_eq!(rt; place[63], 0);
         assert_eq!(rt; m.mark(2), Ok(()));
@@ -301,6 +328,24 @@ mod tests {
             m.read_longwords(0x7ff, &mut words),
             Err(MemoryFault::Absent(0xff))
         );
+        Ok(())
+    }
+
+    // It has no body of its own for a read of longwords.
+    #[test]
+    fn a_shifted_memory_reads_longwords_line_by_line(rt: HostRuntime) -> Result<(), Fail> {
+        let mut m = Shifted::new(Flat::zeros(rt.alloc(), 96)?, 0x100);
+        assert_eq!(rt; m.write(0x100, &[1; 32], ONES), Ok(()));
+        assert_eq!(rt; m.write(0x101, &[2; 32], ONES), Ok(()));
+        assert_eq!(rt; m.write(0x102, &[3; 32], ONES), Ok(()));
+        let mut place = [7; 20];
+        assert_eq!(rt; m.read_longwords(0x806, &mut place), Ok(18));
+        assert_eq!(rt; place[1], 0x0101_0101);
+        assert_eq!(rt; place[2], 0x0202_0202);
+        assert_eq!(rt; place[9], 0x0202_0202);
+        assert_eq!(rt; place[10], 0x0303_0303);
+        assert_eq!(rt; place[17], 0x0303_0303);
+        assert_eq!(rt; place[18], 7);
         Ok(())
     }
 
