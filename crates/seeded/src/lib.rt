@@ -11,7 +11,7 @@ pub struct Random {
 }
 
 impl Random {
-    // From a seed that is not 0, no state is ever 0.
+    // From a seed of 0 every number is 0.
     pub fn new(seed: u64) -> Random
         ensures { result.state ≡ seed }
     {
