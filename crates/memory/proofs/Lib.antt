@@ -1,4 +1,7 @@
+pub mod Blocks
+pub mod GuessedBanks
 pub mod PutParts
+pub mod LongwordRule
 pub mod LongwordMerges
 pub mod LongwordRuns
 pub mod TakenLongwords

@@ -5,6 +5,7 @@ pub mod Rows
 pub mod Layouts
 pub mod Banks
 pub mod Marked
+pub mod Guesses
 pub mod Layers
 pub mod BankRules
 pub mod Powers

@@ -1,5 +1,5 @@
 -- Longwords: numbers of 32 bits in the bytes of a line, eight to a line, low end first.
-use Rattle.std.specs.Prelude.{ℕ, zero, suc, ◌+◌, ◌*◌, ◌/◌, ◌%◌, List, [], ◌∷◌, ◌++◌, length, map, take, drop, Ok, Err, Result}
+use Rattle.std.specs.Prelude.{◌≡◌, ◌<◌, ◌≤◌, true, is_err, slice_index, ℕ, zero, suc, ◌+◌, ◌*◌, ◌/◌, ◌%◌, List, [], ◌∷◌, ◌++◌, length, map, take, drop, Ok, Err, Result}
 use Rattle.std.specs.List.{range_with_len}
 use Rattle.memory.specs.Bytes.{joined}
 use Rattle.memory.specs.Content.{Content, Lines, absent, spoiled, good, read_answer}
@@ -34,3 +34,18 @@ longwords_answered count (Err fault) = Err fault
 
 abbrev pub longwords_answer : ℕ → ℕ → Lines → Result ℕ MemoryFault
 longwords_answer count first lines = longwords_answered (length (longwords_on count first lines)) (read_answer (first / 8) (lines (first / 8)))
+
+-- The rule. A longword is read of its line, which is good.
+abbrev pub IsLongwordOf : Content → ℕ → ℕ → Type 0
+IsLongwordOf absent index word = ⊥
+IsLongwordOf spoiled index word = ⊥
+IsLongwordOf (good bytes) index word = word ≡ longword_at bytes (4 * index)
+
+-- of those asked for, each that is read is that of its line, and where fewer are read, a read of the next one's line is refused
+pub record ReadByTheRule (count first : ℕ) (lines : Lines) (words : List ℕ) : Type 0 where
+  pub most : length words ≤ count
+  pub each : (k : ℕ) → k < length words → IsLongwordOf (lines ((first + k) / 8)) ((first + k) % 8) (slice_index words k)
+  pub ends : length words < count → is_err (read_answer ((first + length words) / 8) (lines ((first + length words) / 8))) ≡ true
+
+abbrev pub LongwordsByTheRule : Type 0
+LongwordsByTheRule = (count first : ℕ) (lines : Lines) → ReadByTheRule count first lines (longwords_on count first lines)

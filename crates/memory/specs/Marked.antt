@@ -1,5 +1,5 @@
 -- Marks: a layer that spoils up to 32 lines of the memory below.
-use Rattle.std.specs.Prelude.{◌≡◌, ℕ, Bool, true, false, cond, not, ◌&&◌, AllPairs, List, [], ◌∷◌, ◌++◌, length, ◌/◌, ◌%◌, ◌==◌, ◌≢◌, get_or, nat_le}
+use Rattle.std.specs.Prelude.{◌≡◌, ℕ, Bool, true, false, cond, not, ◌&&◌, AllPairs, List, [], ◌∷◌, ◌++◌, length, ◌/◌, ◌%◌, ◌==◌, ◌≢◌, get_or, nat_le, replicate, slice_set}
 use Rattle.std.specs.List.{count_by, list_any, range_with_len}
 use Rattle.memory.specs.declared.marks.Mark.{Mark}
 use Rattle.memory.specs.declared.marks.MarkRefusal.{MarkRefusal}
@@ -59,6 +59,13 @@ succeeds (refusal number values) = false
 -- the marks after a line was marked or turned down
 abbrev pub with_mark : Answer → List Mark → ℕ → List Mark
 with_mark answer marks line = cond (succeeds answer && not (marked marks line)) (marks ++ record { line = line } ∷ []) marks
+
+-- the table asked before the marks are searched, after that: the place of the marked line's eight is set
+abbrev pub with_hint : Answer → ℕ → List Bool → List Bool
+with_hint answer line hints = cond (succeeds answer) (slice_set hints (line / 8 % 4096) true) hints
+
+abbrev pub no_hints : List Bool
+no_hints = replicate 4096 false
 
 -- every line after that: the marked one is spoiled
 abbrev pub lines_marked : Answer → ℕ → Lines → Lines

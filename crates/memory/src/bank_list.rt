@@ -3,6 +3,7 @@ ghost use Rattle.std.specs.Prelude.{◌≡◌, ℕ, ◌^◌, ◌<◌, ◌≤◌,
 ghost use Rattle.std.specs.Result.{result_err};
 ghost use Rattle.memory.specs.Answers.{answered, no_values};
 ghost use Rattle.memory.specs.Banks.{BankListsJudged, holds, list_answer, list_cause, list_fault, total};
+ghost use Rattle.memory.specs.Guesses.{GuessesRight, SmallestBits, guess};
 ghost use Rattle.memory.specs.Rows.{Finds};
 
 use crate::banks::{Bank, BankListRefusal, check, guesses_of, smallest_bits, starts_of};
@@ -16,13 +17,16 @@ pub struct BankList {
     starts: [usize; 8],
     count: usize,
     room: usize,
-    // Which bank may hold an address, by six bits of it from `shift` up: it is looked at before the others, and may be the wrong one.
+    // Which bank is guessed for an address, by six bits of it from `shift` up: it is looked at before the others, and may be the wrong
+    // one.
     guesses: [usize; 64],
     shift: u32,
     ghost few: { count ≤ 8 },
     ghost behind: { (k : ℕ) → k < count → slice_index starts k ≡ total (take k banks) },
     ghost faultless: { list_fault (take count banks) room ≡ None },
     ghost narrow: { room < 2 ^ 64 },
+    ghost blocks: { SmallestBits (take count banks) shift },
+    ghost guessed: { (k : ℕ) → k < 64 → slice_index guesses k ≡ guess (take count banks) shift k },
 }
 
 impl BankList {
@@ -53,6 +57,11 @@ impl BankList {
     // The answer to every list is the one that the rules ask for.
     pub fn judged_by_the_rules()
         ensures { BankListsJudged }
+    {}
+
+    // An address is guessed right if no bank before its own has a block of the smallest bank's size with the same six bits.
+    pub fn guesses_right(&self)
+        ensures { GuessesRight (banks_of self.now) self.now.shift }
     {}
 
     // The banks that were given, in their order.

@@ -2,6 +2,8 @@
 ghost use Rattle.std.specs.Prelude.{◌≡◌, ℕ, ◌+◌, ◌^◌, ◌<◌, ◌≤◌, [], ◌∷◌, length, take, nat_le, slice_index};
 ghost use Rattle.std.specs.Result.{result_err};
 ghost use Rattle.memory.specs.Banks.{apart, bank_fault, clear, holds, list_cause, list_fault, size_fits, total};
+ghost use Rattle.memory.specs.Guesses.{SmallestBits, guess, has_block};
+ghost use Rattle.memory.specs.Rows.{first_index};
 
 use crate::refusals::Refusal;
 use crate::rows::Row;
@@ -86,6 +88,16 @@ impl Bank {
         self.ends_by(other.base) || other.ends_by(self.base)
     }
 
+    // Whether the bank, cut into blocks of 2^shift bytes, has one whose number ends in the six bits of k.
+    #[tactic(auto, using(crate::proofs::Blocks::ends_by_distance))]
+    fn has_block(&self, shift: u32, k: u64) -> bool
+        requires { (shift < 64) × (k < 64) }
+        ensures { result ≡ has_block shift k self.now }
+    {
+        let first = self.base >> shift;
+        k.wrapping_sub(first) % 64 < self.size >> shift
+    }
+
     fn is_clear_of(&self, before: &[Bank]) -> bool
         ensures { result ≡ clear before.now self.now }
     {
@@ -152,7 +164,9 @@ pub(crate) fn starts_of(banks: &[Bank]) -> [usize; 8]
 }
 
 // How many bits an address has within the smallest bank.
-pub(crate) fn smallest_bits(banks: &[Bank]) -> u32 {
+pub(crate) fn smallest_bits(banks: &[Bank]) -> u32
+    ensures { SmallestBits banks.now result }
+{
     banks
         .iter()
         .map(|bank| bank.size.trailing_zeros())
@@ -160,16 +174,22 @@ pub(crate) fn smallest_bits(banks: &[Bank]) -> u32 {
         .unwrap_or(0)
 }
 
-// For each number of six bits a bank that has an address with these bits from `shift` up, if one has. They spare a search, and
-// nothing rests on them.
-pub(crate) fn guesses_of(banks: &[Bank], shift: u32) -> [usize; 64] {
+// The first bank that has a block of 2^shift bytes whose number ends in the six bits of k.
+fn first_with_block(banks: &[Bank], shift: u32, k: u64) -> Option<usize>
+    requires { (shift < 64) × (k < 64) }
+    ensures { result ≡ first_index (has_block shift k) banks.now }
+{
+    banks.iter().position(|bank| bank.has_block(shift, k))
+}
+
+// The guess for each number of six bits.
+pub(crate) fn guesses_of(banks: &[Bank], shift: u32) -> [usize; 64]
+    requires { shift < 64 }
+    ensures { (k : ℕ) → k < 64 → slice_index result k ≡ guess banks.now shift k }
+{
     let mut guesses = [0; 64];
     for (k, guess) in guesses.iter_mut().enumerate() {
-        let near = banks.iter().position(|bank| {
-            let first = bank.base.wrapping_shr(shift);
-            (k as u64).wrapping_sub(first) % 64 < bank.size.wrapping_shr(shift)
-        });
-        *guess = near.unwrap_or(0);
+        *guess = first_with_block(banks, shift, k as u64).unwrap_or(0);
     }
     guesses
 }

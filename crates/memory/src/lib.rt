@@ -13,7 +13,7 @@ pub mod rows;
 
 ghost use Rattle.std.specs.Prelude.{◌≡◌, ℕ, length};
 ghost use Rattle.memory.specs.Content.{Bounded, Lines, Whole, is_present, memory_line, read_answer, read_place, write_answer, written};
-ghost use Rattle.memory.specs.Longwords.{buffer_filled, longwords_answer, longwords_on};
+ghost use Rattle.memory.specs.Longwords.{LongwordsByTheRule, buffer_filled, longwords_answer, longwords_on};
 
 use crate::line::copy_longwords;
 
@@ -77,3 +77,8 @@ pub trait Memory {
 
     ghost whole: { (m : Self) → Whole (content m) };
 }
+
+// The longwords that are read of a memory are those that the rule asks for.
+pub fn longwords_read_by_the_rule()
+    ensures { LongwordsByTheRule }
+{}

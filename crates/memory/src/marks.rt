@@ -2,7 +2,7 @@
 ghost use Rattle.std.specs.Prelude.{◌≡◌, ℕ, ◌+◌, ◌/◌, ◌^◌, ◌<◌, ◌≤◌, true, false, [], IfOk, vec_len, vec_capacity, ◌==◌};
 ghost use Rattle.memory.specs.Answers.{answered, no_values};
 ghost use Rattle.memory.specs.Content.{write_answer, written};
-ghost use Rattle.memory.specs.Marked.{AllHinted, AllPresent, Distinct, NeverSpoiled, lines_marked, mark_answer, mark_answer_of_lines, mark_cause, marked, marks_written, with_mark, without};
+ghost use Rattle.memory.specs.Marked.{AllHinted, AllPresent, Distinct, NeverSpoiled, lines_marked, mark_answer, mark_answer_of_lines, mark_cause, marked, marks_written, no_hints, with_hint, with_mark, without};
 ghost use Rattle.std.proofs.Common.{rules};
 
 use crate::refusals::Refusal;
@@ -70,6 +70,7 @@ impl<M: Memory> Marks<M> {
         M: Drop,
         ensures unmarked { IfOk result (λ m. (marks_of m ≡ []) × (m.below ≡ below)) }
         ensures content { IfOk result (λ m. lines_under M.Memory.content m ≡ M.Memory.content below) }
+        ensures hints { IfOk result (λ m. m.hints ≡ no_hints) }
     {
         let marks = Vec::with_capacity(heap, MOST)?;
         let hints = [false; 4096];
@@ -119,6 +120,7 @@ impl<M: Memory> Marks<M> {
     fn unmark(&mut self, line: u64)
         ensures below { self.new.below ≡ self.old.below }
         ensures marks { marks_of self.new ≡ without (marks_of self.old) line }
+        ensures hints { self.new.hints ≡ self.old.hints }
     {
         if let Some(i) = find(&self.marks, line) {
             self.marks.remove(i);
@@ -132,6 +134,7 @@ impl<M: Memory> Marks<M> {
         ensures below { self.new.below ≡ self.old.below }
         ensures marks { marks_of self.new ≡ with_mark (answered no_values mark_cause result) (marks_of self.old) line }
         ensures after { lines_under M.Memory.content self.new ≡ lines_marked (answered no_values mark_cause result) line (lines_under M.Memory.content self.old) }
+        ensures hints { self.new.hints ≡ with_hint (answered no_values mark_cause result) line self.old.hints }
     {
         if !self.below.present(line) {
             return Err(MarkRefusal::Absent);
@@ -184,6 +187,7 @@ impl<M: Memory> Memory for Marks<M> {
         ensures after { lines_under M.Memory.content self.new ≡ written line bytes.now mask (lines_under M.Memory.content self.old) }
         ensures marks { marks_of self.new ≡ marks_written (marks_of self.old) (M.Memory.content self.old.below) line mask }
         ensures below { M.Memory.content self.new.below ≡ written line bytes.now mask (M.Memory.content self.old.below) }
+        ensures hints { self.new.hints ≡ self.old.hints }
     {
         self.below.write(line, bytes, mask)?;
         if mask == u32::MAX {

@@ -1,7 +1,7 @@
 // Numbers that look random, and are the same in each run.
 #![tactic(auto)]
 
-ghost use Rattle.std.specs.Prelude.{◌≡◌, ◌/◌, ◌^◌};
+ghost use Rattle.std.specs.Prelude.{◌≡◌, ◌/◌, ◌^◌, ◌<◌};
 ghost use Rattle.seeded.specs.Random.{stepped, steps, upper_bytes};
 
 // Marsaglia's xorshift of 64 bits.
@@ -18,10 +18,11 @@ impl Random {
         Random { state: seed }
     }
 
-    // The next number.
+    // The next number, which is 0 only from a seed of 0.
     pub fn next(&mut self) -> u64
         ensures number { result ≡ stepped self.old.state }
         ensures state { self.new.state ≡ stepped self.old.state }
+        ensures goes_on { 0 < self.old.state → 0 < self.new.state }
     {
         self.state ^= self.state << 13;
         self.state ^= self.state >> 7;
