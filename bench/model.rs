@@ -1,6 +1,6 @@
-// A model of the same device and memories in plain safe Rust, and the load of `crates/speed` on it: the same generator, the same
-// bursts, the same checksums. It is what the times of the proved program are compared with. Beside each read it also times a
-// plain copy of the same bytes.
+// A model in plain safe Rust of what the load asks of the device and its memories, and the load of `crates/speed` on it: the same
+// generator, the same bursts, the same checksums. It is what the times of the proved program are compared with. Beside each read it
+// also times a plain copy of the same bytes.
 //
 //     model                     prints the rows with their checksums
 //     model time ROUNDS [ROW]   also the picoseconds of a burst, for reads also those of the copy
@@ -21,6 +21,10 @@ trait Memory {
     fn present(&self, line: u64) -> bool;
     fn read(&self, line: u64, place: &mut [u8; 32]) -> Result<(), MemoryFault>;
     fn write(&mut self, line: u64, bytes: &[u8; 32], mask: u32) -> Result<(), MemoryFault>;
+
+    // The bytes of all lines, and where an address lies among them: for the plain copy alone.
+    fn bytes(&self) -> &[u8];
+    fn place_of_address(&self, address: usize) -> usize;
 }
 
 // A memory has the lines below this number.
@@ -69,6 +73,14 @@ impl Memory for Flat {
         let at = line as usize * 32;
         merge(&mut self.bytes[at..at + 32], bytes, mask);
         Ok(())
+    }
+
+    fn bytes(&self) -> &[u8] {
+        &self.bytes
+    }
+
+    fn place_of_address(&self, address: usize) -> usize {
+        address
     }
 }
 
@@ -129,6 +141,14 @@ impl Memory for Banked {
         merge(&mut self.bytes[at..at + 32], bytes, mask);
         Ok(())
     }
+
+    fn bytes(&self) -> &[u8] {
+        &self.bytes
+    }
+
+    fn place_of_address(&self, address: usize) -> usize {
+        self.place_of(address as u64 / 32).unwrap() + address % 32
+    }
 }
 
 struct Marks<M> {
@@ -173,6 +193,14 @@ impl<M: Memory> Memory for Marks<M> {
             }
         }
         Ok(())
+    }
+
+    fn bytes(&self) -> &[u8] {
+        self.below.bytes()
+    }
+
+    fn place_of_address(&self, address: usize) -> usize {
+        self.below.place_of_address(address)
     }
 }
 
@@ -771,24 +799,33 @@ fn copy_all(memory: &[u8], bytes: usize, jobs: &mut [Job]) {
     }
 }
 
-// The nanoseconds of each round of plain copies of the bytes that the bursts of a row read.
-fn run_copies(row: &LoadRow, rounds: usize) -> Vec<u64> {
-    let bytes: Vec<u8> = (0..BYTES).map(|i| i as u8).collect();
+// The nanoseconds of each round of plain copies of the bytes that the bursts of a row read. A burst stays in a page, and a page lies
+// together in every memory of the load.
+fn run_copies<M: Memory>(memory: &M, row: &LoadRow, rounds: usize) -> Vec<u64> {
     let mut jobs = vec![EMPTY; BURSTS];
     let mut random = Random::seeded();
     let mut times = Vec::with_capacity(rounds);
     for round in 0..rounds {
         make_all(&mut jobs, row, &mut random, (round * BURSTS) as u64);
+        for job in &mut jobs {
+            job.at = memory.place_of_address(job.at);
+        }
         let start = Instant::now();
-        copy_all(black_box(&bytes), 4 * row.count, &mut jobs);
+        copy_all(black_box(memory.bytes()), 4 * row.count, &mut jobs);
         times.push(start.elapsed().as_nanos() as u64);
         black_box(&jobs);
     }
     times
 }
 
-// The checksum of a row, and the nanoseconds of the bursts of each round.
-fn run_row<M: Memory>(memory: M, row: &LoadRow, rounds: usize) -> (u64, Vec<u64>) {
+// What a row comes to: its checksum, and the nanoseconds of each round of bursts, for reads also of plain copies.
+struct Outcome {
+    sum: u64,
+    times: Vec<u64>,
+    copies: Vec<u64>,
+}
+
+fn run_row<M: Memory>(memory: M, row: &LoadRow, rounds: usize) -> Outcome {
     let mut bridge = Bridge::new(memory);
     open_windows(&mut bridge);
     fill(&mut bridge, &mut Random::seeded());
@@ -818,7 +855,15 @@ fn run_row<M: Memory>(memory: M, row: &LoadRow, rounds: usize) -> (u64, Vec<u64>
     for n in 16..32 {
         sum.add(u64::from(bridge.register_read(n)));
     }
-    (sum.value, times)
+    let copies = match row.direction {
+        Direction::Read => run_copies(&bridge.memory, row, rounds),
+        Direction::Write => Vec::new(),
+    };
+    Outcome {
+        sum: sum.value,
+        times,
+        copies,
+    }
 }
 
 fn marked() -> Marks<Flat> {
@@ -851,23 +896,20 @@ fn main() {
             continue;
         }
         let row = LoadRow::nth(i);
-        let (checksum, times) = match row.memory {
+        let outcome = match row.memory {
             MemoryKind::Flat => run_row(Flat::zeros(BYTES), &row, rounds),
             MemoryKind::Banked => run_row(banked(), &row, rounds),
             MemoryKind::Marked => run_row(marked(), &row, rounds),
         };
-        total.add(checksum);
-        if !timed {
-            println!("{row} {checksum:016x}");
-            continue;
+        total.add(outcome.sum);
+        print!("{row} {:016x}", outcome.sum);
+        if timed {
+            print!(" {}", picoseconds(outcome.times));
         }
-        let taken = picoseconds(times);
-        if row.direction == Direction::Read {
-            let copied = picoseconds(run_copies(&row, rounds));
-            println!("{row} {checksum:016x} {taken} {copied}");
-        } else {
-            println!("{row} {checksum:016x} {taken}");
+        if timed && row.direction == Direction::Read {
+            print!(" {}", picoseconds(outcome.copies));
         }
+        println!();
     }
     println!("total {:016x}", total.value);
 }

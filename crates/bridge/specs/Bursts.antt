@@ -1,5 +1,5 @@
 -- Card bursts: how one is checked, and how it is cut into the longwords of one line each.
-use Rattle.std.specs.Prelude.{ℕ, zero, suc, ◌+◌, ◌-◌, ◌*◌, ◌^◌, min, Bool, true, false, cond, not, ◌||◌, List, [], ◌∷◌, length, take, drop, Some, None, Option, ◌==◌, nat_lt}
+use Rattle.std.specs.Prelude.{ℕ, zero, suc, ◌+◌, ◌-◌, ◌*◌, ◌/◌, ◌%◌, ◌^◌, min, Bool, true, false, cond, not, ◌||◌, List, [], ◌∷◌, length, take, drop, Some, None, Option, ◌==◌, nat_lt}
 use Rattle.std.specs.List.{list_any}
 use Rattle.bridge.specs.declared.log.Direction.{Direction}
 use Rattle.bridge.specs.declared.log.Direction.TheVariants.{Read, Write}
@@ -72,13 +72,16 @@ pub record Piece : Type 0 where
 abbrev pub piece_to_write : ℕ → List ℕ → List ℕ → Piece
 piece_to_write pci words enables = record { pci = pci; count = length words; job = writing words enables }
 
--- how many of `left` longwords from a PCI address on lie before the next multiple of 32
-abbrev pub in_line : ℕ → ℕ → ℕ
-in_line pci left = min left (8 - bits 4 2 pci)
+-- how many of `left` longwords from a PCI address on lie before the next multiple of `unit` longwords
+abbrev pub before_end : ℕ → ℕ → ℕ → ℕ
+before_end unit pci left = min left (unit - pci / 4 % unit)
 
--- and before the next multiple of 2^13, where a page ends
+-- before its line ends, which has 8, and before its page ends, which has 2048
+abbrev pub in_line : ℕ → ℕ → ℕ
+in_line pci left = before_end 8 pci left
+
 abbrev pub in_page : ℕ → ℕ → ℕ
-in_page pci left = min left (2048 - bits 12 2 pci)
+in_page pci left = before_end 2048 pci left
 
 -- `left` longwords cut at the PCI multiples of 32; each piece has one at least, so as many turns as longwords suffice
 abbrev pub cut : ℕ → ℕ → ℕ → Job → List Piece

@@ -1,7 +1,7 @@
 // What card bursts answer, and their checks.
 ghost use Rattle.std.specs.Prelude.{◌≡◌, ◌+◌, ◌^◌, ◌<◌, if◌then◌else◌, nat_lt};
 ghost use Rattle.bridge.specs.BurstAnswers.{burst_cause, read_end_cause, tallied, write_end_cause};
-ghost use Rattle.bridge.specs.Bursts.{in_line, in_page, wrong_count};
+ghost use Rattle.bridge.specs.Bursts.{before_end, wrong_count};
 
 use crate::faults::BurstFault;
 use memory::refusals::Refusal;
@@ -90,18 +90,17 @@ pub(crate) fn count_is_wrong(pci: u32, count: usize, words: &[u32]) -> bool
         || u64::from(pci) + 4 * count as u64 > 0x1_0000_0000
 }
 
-// How many of `left` longwords from a PCI address on lie in its line.
-pub(crate) fn in_line(pci: u32, left: usize) -> usize
-    ensures { result ≡ in_line pci left }
-{
-    left.min(8 - (pci / 4 % 8) as usize)
-}
+// The longwords of a line, and of a page.
+pub(crate) const LINE: usize = 8;
 
-// How many of `left` longwords from a PCI address on lie in its page.
-pub(crate) fn in_page(pci: u32, left: usize) -> usize
-    ensures { result ≡ in_page pci left }
+pub(crate) const PAGE: usize = 2048;
+
+// How many of `left` longwords from a PCI address on lie before the next multiple of so many.
+pub(crate) fn before_end(unit: usize, pci: u32, left: usize) -> usize
+    requires { 0 < unit }
+    ensures { result ≡ before_end unit pci left }
 {
-    left.min(2048 - (pci / 4 % 2048) as usize)
+    left.min(unit - (pci / 4) as usize % unit)
 }
 
 // The refusal where no window holds a longword: the first one of a burst fails the third check, a later one ends it.

@@ -169,7 +169,8 @@ impl Registers {
 }
 
 impl<M: Memory> Bridge<M> {
-    // The cycle on the PCI bus that a processor address stands for.
+    // The cycle on the PCI bus that a processor address stands for. Refuses an address of no region with 11, a length, first lane or
+    // low bits that are not allowed with 12, a configuration access that HAXR2 does not allow with 13.
     pub fn decode(&self, cpu: u64) -> Result<Cycle, DecodeRefusal>
         ensures { answered cycle_values decode_cause result ≡ (performed (state_of M.Memory.content self.now) (processor (decode cpu))).answer }
     {

@@ -10,7 +10,7 @@ use memory::Memory;
 use memory::marks::{MarkRefusal, Marks};
 
 impl<M: Memory> Bridge<Marks<M>> {
-    // Marks a line; all else of the bridge stays as it was.
+    // Marks a line; all else of the bridge stays as it was. Refuses an absent line with 14, a 33rd mark with 17, and leaves all.
     pub fn mark(&mut self, line: u64) -> Result<(), MarkRefusal>
         ensures answer { answered no_values mark_cause result ≡ mark_answer (marks_of self.old.memory) (M.Memory.content self.old.memory.below) line }
         ensures by_lines { NeverSpoiled (M.Memory.content self.old.memory.below) → answered no_values mark_cause result ≡ mark_answer_of_lines (state_of (lines_under M.Memory.content) self.old).lines line }

@@ -76,7 +76,8 @@ impl<M: Memory> Bridge<M> {
         Ok(())
     }
 
-    // The 32 bytes of the line at an address.
+    // The 32 bytes of the line at an address. Refuses an address at which no line begins or that no memory has with 11, an absent
+    // line with 14, a spoiled one with 15.
     pub fn load(&self, address: u64) -> Result<[u8; 32], AccessRefusal>
         ensures answer { answered (λ bytes. bytes) access_cause result ≡ (performed (state_of M.Memory.content self.now) (processor (load address))).answer }
         ensures line { IfErr result (OfLine (address / 32)) }
@@ -87,7 +88,8 @@ impl<M: Memory> Bridge<M> {
         Ok(bytes)
     }
 
-    // Stores 32 bytes into the line at an address.
+    // Stores 32 bytes into the line at an address, also a spoiled one, which is good then. Refuses an address at which no line begins or
+    // that no memory has with 11, an absent line with 14, and leaves all as it was.
     pub fn store(&mut self, address: u64, bytes: &[u8; 32]) -> Result<(), AccessRefusal>
         ensures answer { answered no_values access_cause result ≡ (performed (state_of M.Memory.content self.old) (processor (store address bytes.now))).answer }
         ensures line { IfErr result (OfLine (address / 32)) }

@@ -8,7 +8,9 @@ ghost use Rattle.bridge.specs.State.{state_of, with_rows};
 ghost use Rattle.bridge.specs.Translation.{located_claimed, reached};
 
 use crate::Bridge;
-use crate::bursts::{BurstRefusal, ReadEnd, ReadRefusal, count_is_wrong, in_page, no_window};
+use crate::bursts::{
+    BurstRefusal, PAGE, ReadEnd, ReadRefusal, before_end, count_is_wrong, no_window,
+};
 use crate::faults::BurstFault;
 use crate::log::Direction;
 use crate::walk::Claimed;
@@ -50,7 +52,7 @@ impl<M: Memory> Bridge<M> {
                 mapped,
                 pci: here,
             };
-            let end = moved + in_page(here, count - moved);
+            let end = moved + before_end(PAGE, here, count - moved);
             let read = self.read_page(claimed, &mut buffer[moved..end]);
             self.log
                 .note_served(Direction::Read, here, read.map(|_| ()));
@@ -65,7 +67,8 @@ impl<M: Memory> Bridge<M> {
         Ok(())
     }
 
-    // A card's read of `count` longwords into the first places of a buffer.
+    // A card's read of `count` longwords into the first places of a buffer. With 1, 2 or 3 nothing is read; with 4 to 9 the buffer has
+    // what was read before, and the rest of it stays.
     pub fn card_read(
         &mut self,
         pci: u32,

@@ -9,7 +9,7 @@ ghost use Rattle.bridge.specs.State.{state_of, with_lines, with_rows};
 
 use crate::Bridge;
 use crate::bursts::{
-    BurstRefusal, WriteCounts, WriteEnd, WriteRefusal, count_is_wrong, in_line, no_window,
+    BurstRefusal, LINE, WriteCounts, WriteEnd, WriteRefusal, before_end, count_is_wrong, no_window,
 };
 use crate::enables::{ByteEnables, WritePiece, any_is_wide};
 use crate::faults::BurstFault;
@@ -82,7 +82,7 @@ impl<M: Memory> Bridge<M> {
             let Some((number, mapped)) = self.registers.claim(here) else {
                 return Err(no_window(first == 0, WriteEnd { counts }));
             };
-            let n = in_line(here, count - first);
+            let n = before_end(LINE, here, count - first);
             let claimed = Claimed {
                 number,
                 mapped,
@@ -102,7 +102,8 @@ impl<M: Memory> Bridge<M> {
         Ok(counts)
     }
 
-    // A card's write of `count` longwords, each under its byte enables.
+    // A card's write of `count` longwords, each under its byte enables. With 1, 2 or 3 nothing is written; a faulty line is dismissed
+    // alone, and where a window ends, with 4, the lines before it are written. The answer counts them.
     pub fn card_write(
         &mut self,
         pci: u32,

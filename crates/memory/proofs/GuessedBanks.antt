@@ -1,5 +1,5 @@
 -- The guess for an address is the bank that holds it, if no bank before has a block with the same six bits.
-use Rattle.std.specs.Prelude.{◌≡◌, ℕ, ◌+◌, ◌-◌, ◌*◌, ◌/◌, ◌%◌, ◌^◌, ◌<◌, ◌≤◌, true, List, length, Some, ◌==◌}
+use Rattle.std.specs.Prelude.{◌≡◌, ℕ, ◌+◌, ◌-◌, ◌*◌, ◌/◌, ◌%◌, ◌^◌, ◌<◌, ◌≤◌, true, List, length, Some, slice_index, ◌==◌}
 use Rattle.std.specs.Int.{bit_at, w64}
 use Rattle.std.specs.List.{range_with_len}
 use Rattle.std.specs.Option.{unwrap_or}
@@ -15,7 +15,7 @@ use Rattle.std.proofs.lemmas.List.Folds.{list_any_at}
 use Rattle.std.proofs.lemmas.List.FromFn.{length-range_with_len, get_or-range_with_len}
 use Rattle.memory.specs.declared.banks.Bank.{Bank}
 use Rattle.memory.specs.Banks.{PowerSize, SoundUntil, holds, nth}
-use Rattle.memory.specs.Guesses.{GuessesRight, SmallestBits, bits_within, has_block}
+use Rattle.memory.specs.Guesses.{GuessesRight, SmallestBits, bits_within, guess, has_block}
 use Rattle.memory.specs.Searches.{finds_first}
 
 -- the bits within a bank are as many as the exponent of its size says
@@ -76,8 +76,8 @@ module _ (banks : List Bank) (bits : ℕ) (s : SmallestBits banks bits) (sound :
       (omega (arith, length-range_with_len first count))
       (eq-eqb _ _ (ap (λ n. n % 64) (get_or-range_with_len first count (block - first) 0 (omega arith) ∙ omega arith)))
 
-  pub right : GuessesRight banks bits
-  right i address within held before =
+  pub right : (guesses : List ℕ) → ((k : ℕ) → k < 64 → slice_index guesses k ≡ guess banks bits k) → GuessesRight banks bits guesses
+  right guesses are i address within held before =
       let k = address / 2 ^ bits % 64 in
-      sym (ap (λ o. unwrap_or o 0) (finds_first (has_block bits k) banks (Some i)
+      are k (omega arith) ∙ sym (ap (λ o. unwrap_or o 0) (finds_first (has_block bits k) banks (Some i)
       (within, (λ d. ap (has_block bits k) (get_or_default banks i d _ within) ∙ own_block i address within held), λ j d from near. ap (has_block bits k) (get_or_default banks j d _ (omega arith)) ∙ before j near)))

@@ -1,5 +1,5 @@
 -- Which bank of a list is guessed to hold an address, before the banks are searched.
-use Rattle.std.specs.Prelude.{◌≡◌, ℕ, ◌/◌, ◌%◌, ◌^◌, ◌<◌, ◌≤◌, Bool, true, false, All, List, length, ◌==◌}
+use Rattle.std.specs.Prelude.{◌≡◌, ℕ, ◌/◌, ◌%◌, ◌^◌, ◌<◌, ◌≤◌, Bool, true, false, All, List, length, slice_index, ◌==◌}
 use Rattle.std.specs.Int.{trailing_zeros, w64}
 use Rattle.std.specs.List.{list_any, range_with_len}
 use Rattle.std.specs.Option.{unwrap_or}
@@ -25,8 +25,8 @@ has_block bits k b = list_any (λ block. block % 64 == k) (range_with_len (b.bas
 abbrev pub guess : List Bank → ℕ → ℕ → ℕ
 guess banks bits k = unwrap_or (first_index (has_block bits k) banks) 0
 
--- the guess for an address that a bank holds is that bank, if no bank before it has a block with the same six bits
-abbrev pub GuessesRight : List Bank → ℕ → Type 0
-GuessesRight banks bits = (i address : ℕ) → i < length banks → holds (nth banks i) address ≡ true
+-- what a table of guesses has for an address that a bank holds is that bank, if no bank before it has a block with the same six bits
+abbrev pub GuessesRight : List Bank → ℕ → List ℕ → Type 0
+GuessesRight banks bits guesses = (i address : ℕ) → i < length banks → holds (nth banks i) address ≡ true
     → ((j : ℕ) → j < i → has_block bits (address / 2 ^ bits % 64) (nth banks j) ≡ false)
-    → guess banks bits (address / 2 ^ bits % 64) ≡ i
+    → slice_index guesses (address / 2 ^ bits % 64) ≡ i

@@ -59,9 +59,10 @@ impl BankList {
         ensures { BankListsJudged }
     {}
 
-    // An address is guessed right if no bank before its own has a block of the smallest bank's size with the same six bits.
+    // An address is guessed right by the table if no bank before its own has a block of the smallest bank's size with the same six
+    // bits.
     pub fn guesses_right(&self)
-        ensures { GuessesRight (banks_of self.now) self.now.shift }
+        ensures { GuessesRight (banks_of self.now) self.now.shift self.now.guesses }
     {}
 
     // The banks that were given, in their order.

@@ -36,7 +36,8 @@ impl MemoryFault {
 }
 
 // A memory is what its lines hold: each is absent, spoiled, or good with 32 bytes. A new kind of memory gives `content`
-// and shows the two laws and the contracts of the three calls; whatever is proved of every memory then holds of it.
+// and shows the two laws and the contracts of the three calls that have no body here; whatever is proved of every memory then holds
+// of it.
 pub trait Memory {
     ghost content: { Self → Lines };
 

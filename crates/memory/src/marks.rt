@@ -51,8 +51,8 @@ impl Refusal for MarkRefusal {
 pub struct Marks<M: Memory> {
     below: M,
     marks: Vec<Mark>,
-    // Whether one of eight lines may be marked, by the low twelve bits of their number: most lines are told unmarked without a search,
-    // and eight at a time.
+    // Whether one of eight lines may be marked, by bits 14:3 of a line's number: most lines are told unmarked without a search, and
+    // eight at a time.
     hints: [bool; 4096],
     ghost room: { 32 ≤ vec_capacity marks },
     ghost few: { vec_len marks ≤ 32 },

@@ -308,6 +308,13 @@ mod tests {
             Err(MemoryFault::Absent(0x102))
         );
         assert_eq!(rt; place[0], 7);
+        Ok(())
+    }
+
+    #[test]
+    fn a_shifted_memory_names_its_own_lines(rt: HostRuntime) -> Result<(), Fail> {
+        let mut m = Shifted::new(Flat::zeros(rt.alloc(), 64)?, 0x100);
+        assert_eq!(rt; m.write(0x101, &[4; 32], ONES), Ok(()));
         let mut words = [7; 9];
         assert_eq!(rt; m.read_longwords(0x80b, &mut words), Ok(5));
         assert_eq!(rt;

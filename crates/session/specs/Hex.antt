@@ -2,7 +2,7 @@
 use Rattle.std.specs.Prelude.{◌≡◌, ℕ, ◌^◌, ◌<◌, ◌≤◌, List, length}
 use Rattle.std.specs.Str.Parse.{IsNumeral, digits_value}
 
--- one digit or more and nothing else, at most 16 in all; `value 16 w` is the number that they write
+-- one digit or more and nothing else, at most 16 in all; `digits_value 16 w` is the number that they write
 abbrev pub HexWord : List ℕ → Type 0
 HexWord w = IsNumeral 16 w × (length w ≤ 16)
 

@@ -34,7 +34,7 @@ const TABLE_LINE: u64 = 63 * 256;
 const LINES: u64 = 64 * 256;
 
 // A burst with what it is answered. A read fills `words`, a write stores them. Of a read's answer the number is kept: to move a
-// whole refusal takes longer than the burst of one longword that was not refused.
+// whole refusal takes about as long as a burst of one longword.
 #[derive(Clone, Copy)]
 struct Job {
     pci: u32,

@@ -17,14 +17,14 @@ returns-in_err-moved g c =
     let made : AnswerOf (Fault c.loop-moved.moved (c.args.pci + 4 * c.loop-moved.moved)) c.read_page-read.result c.map_err.result = search rules in
     let p = err_from_is_err_and c.from_residual.result c.from_residual.ensures.1 in
     rw (p.1, p.2)
-    (page_ends _ _ _ _ _ _ _ c.loop-moved.invariant (omega arith) c.requires.aligned c.loop-moved-test.true c.in-Some.number c.in-Some.mapped (sym c.in-Some.ensures) _ (ap (λ k. c.loop-moved.moved + k) c.in_page.ensures) _
+    (page_ends _ _ _ _ _ _ _ c.loop-moved.invariant (omega arith) c.requires.aligned c.loop-moved-test.true c.in-Some.number c.in-Some.mapped (sym c.in-Some.ensures) _ (ap (λ k. c.loop-moved.moved + k) c.before_end.ensures) _
     _ c.read_page-read.ensures.after _ _ _ same c.note_served.ensures c.read_page-read.ensures.read c.map_err.result made _ c.in_err-moved.was)
 
 pub loop-moved-smaller : goal.loop-moved-smaller
 loop-moved-smaller g c =
     let same : c.map.result ≡ without_count c.read_page-read.result = search rules in
     let made : AnswerOf (Fault c.loop-moved.moved (c.args.pci + 4 * c.loop-moved.moved)) c.read_page-read.result c.map_err.result = search rules in
-    let on = page_goes_on _ _ _ _ _ _ _ c.loop-moved.invariant (omega arith) c.requires.aligned c.loop-moved-test.true c.in-Some.number c.in-Some.mapped (sym c.in-Some.ensures) _ (ap (λ k. c.loop-moved.moved + k) c.in_page.ensures) _
+    let on = page_goes_on _ _ _ _ _ _ _ c.loop-moved.invariant (omega arith) c.requires.aligned c.loop-moved-test.true c.in-Some.number c.in-Some.mapped (sym c.in-Some.ensures) _ (ap (λ k. c.loop-moved.moved + k) c.before_end.ensures) _
     _ c.read_page-read.ensures.after c.note_served.new.self _ _ same c.note_served.ensures c.read_page-read.ensures.read c.read_page-read.auto.words c.map_err.result made _ c.in_ok-moved.was c.read_page-read.ensures.again c.read_page-read.ensures.low in
     omega (arith, on.1, c.loop-moved-test.true)
 
@@ -32,7 +32,7 @@ pub loop-moved-preserved : goal.loop-moved-preserved
 loop-moved-preserved g c =
     let same : c.map.result ≡ without_count c.read_page-read.result = search rules in
     let made : AnswerOf (Fault c.loop-moved.moved (c.args.pci + 4 * c.loop-moved.moved)) c.read_page-read.result c.map_err.result = search rules in
-    (page_goes_on _ _ _ _ _ _ _ c.loop-moved.invariant (omega arith) c.requires.aligned c.loop-moved-test.true c.in-Some.number c.in-Some.mapped (sym c.in-Some.ensures) _ (ap (λ k. c.loop-moved.moved + k) c.in_page.ensures) _
+    (page_goes_on _ _ _ _ _ _ _ c.loop-moved.invariant (omega arith) c.requires.aligned c.loop-moved-test.true c.in-Some.number c.in-Some.mapped (sym c.in-Some.ensures) _ (ap (λ k. c.loop-moved.moved + k) c.before_end.ensures) _
     _ c.read_page-read.ensures.after _ _ _ same c.note_served.ensures c.read_page-read.ensures.read c.read_page-read.auto.words c.map_err.result made _ c.in_ok-moved.was c.read_page-read.ensures.again c.read_page-read.ensures.low).0
 
 pub returns : goal.returns

@@ -14,12 +14,12 @@ pub returns-in_default : goal.returns-in_default
 returns-in_default g c = no_window_next _ _ _ _ _ _ _ c.loop-first.invariant (ltb-true _ _ (sym c.takes_more.ensures ∙ c.loop-first-test.true)) (sym c.in_default.ensures) _ c.no_window.ensures
 
 pub invariant_of-enables : goal.invariant_of-enables
-invariant_of-enables g c = record { narrow = wide_part c.args.enables.now c.args.count c.loop-first.counts.taken c.in_line-n.result (omega arith) c.requires.narrow }
+invariant_of-enables g c = record { narrow = wide_part c.args.enables.now c.args.count c.loop-first.counts.taken c.before_end-n.result (omega arith) c.requires.narrow }
 
 pub loop-first-preserved : goal.loop-first-preserved
 loop-first-preserved g c =
-    go_on _ _ _ _ _ _ _ c.loop-first.invariant c.in_line-n.result (ltb-true _ _ (sym c.takes_more.ensures ∙ c.loop-first-test.true)) c.requires.room c.in_line-n.ensures c.in-Some.number c.in-Some.mapped (sym c.in-Some.ensures) _ _ c.loop-first.self.log c.write_piece-served.result
-    c.write_piece-served.ensures.outcome c.write_piece-served.ensures.after _ (c.add.ensures ∙ ap (tallied c.loop-first.counts c.in_line-n.result) c.is_ok.ensures.value)
+    go_on _ _ _ _ _ _ _ c.loop-first.invariant c.before_end-n.result (ltb-true _ _ (sym c.takes_more.ensures ∙ c.loop-first-test.true)) c.requires.room c.before_end-n.ensures c.in-Some.number c.in-Some.mapped (sym c.in-Some.ensures) _ _ c.loop-first.self.log c.write_piece-served.result
+    c.write_piece-served.ensures.outcome c.write_piece-served.ensures.after _ (c.add.ensures ∙ ap (tallied c.loop-first.counts c.before_end-n.result) c.is_ok.ensures.value)
 
 pub returns : goal.returns
 returns g c = complete _ _ _ _ _ _ _ c.loop-first.invariant c.requires.some (ltb-false _ _ (sym c.takes_more.ensures ∙ c.loop-first-test.false))

@@ -6,4 +6,4 @@ use Rattle.memory.proofs.bank_list.BankList.guesses_right.Goals as goal
 pub returns : goal.returns
 returns c =
     let list = c.args.self.now in
-    right (banks_of list) list.shift list.blocks (admitted (banks_of list) list.room list.faultless).sound
+    right (banks_of list) list.shift list.blocks (admitted (banks_of list) list.room list.faultless).sound list.guesses list.guessed
