@@ -1,5 +1,5 @@
 // A layer of marked lines over any memory.
-ghost use Rattle.std.specs.Prelude.{◌≡◌, ℕ, ◌+◌, ◌/◌, ◌^◌, ◌<◌, ◌≤◌, true, false, [], IfOk, vec_len, vec_capacity, ◌==◌};
+ghost use Rattle.std.specs.Prelude.{◌≡◌, ℕ, ◌+◌, ◌/◌, ◌%◌, ◌^◌, ◌<◌, ◌≤◌, true, false, [], IfOk, get_or, vec_len, vec_capacity, ◌==◌};
 ghost use Rattle.memory.specs.Answers.{answered, no_values};
 ghost use Rattle.memory.specs.Content.{write_answer, written};
 ghost use Rattle.memory.specs.Marked.{AllHinted, AllPresent, Distinct, NeverSpoiled, lines_marked, mark_answer, mark_answer_of_lines, mark_cause, marked, marks_written, no_hints, with_hint, with_mark, without};
@@ -83,7 +83,8 @@ impl<M: Memory> Marks<M> {
 
     // Whether a marked line may be among the eight of a line.
     fn may_be_marked(&self, line: u64) -> bool
-        ensures { result ≡ false → (k : ℕ) → k / 8 ≡ line / 8 → marked (marks_of self.now) k ≡ false }
+        ensures hint { result ≡ get_or self.now.hints (line / 8 % 4096) false }
+        ensures unmarked { result ≡ false → (k : ℕ) → k / 8 ≡ line / 8 → marked (marks_of self.now) k ≡ false }
     {
         self.hints[(line / 8 % 4096) as usize]
     }
