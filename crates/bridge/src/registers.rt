@@ -66,9 +66,12 @@ impl TryFrom<u64> for Register {
 
     fn try_from(n: u64) -> Result<Register, RegisterRefusal> {
         match n {
-            6..=7 => Ok(Register::TranslatedBase((n - 5) as u8)),
-            8..=9 => Ok(Register::PciBase((n - 7) as u8)),
-            10..=11 => Ok(Register::PciMask((n - 9) as u8)),
+            6 => Ok(Register::TranslatedBase(1)),
+            7 => Ok(Register::TranslatedBase(2)),
+            8 => Ok(Register::PciBase(1)),
+            9 => Ok(Register::PciBase(2)),
+            10 => Ok(Register::PciMask(1)),
+            11 => Ok(Register::PciMask(2)),
             12 => Ok(Register::Haxr0),
             13 => Ok(Register::Haxr1),
             14 => Ok(Register::Haxr2),

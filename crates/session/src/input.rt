@@ -36,7 +36,8 @@ impl LineCutter {
     {
         match &mut self.line {
             Ok(bytes) if bytes.len() < LONGEST_LINE => bytes.push(byte)?,
-            _ => self.line = Err(TooLong),
+            Ok(_) => self.line = Err(TooLong),
+            Err(TooLong) => {}
         }
         Ok(())
     }
